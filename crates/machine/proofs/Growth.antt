@@ -1,0 +1,62 @@
+-- A copy has grown from itself, and growth is carried on from copy to copy.
+use mathlib.Core.Path.{_≡_, refl, sym, ap, _∙_, subst}
+use mathlib.Core.Bool.{Bool, true, false, not, _||_, true≢false}
+use mathlib.Core.Logic.{_⊎_, inl, inr, _≢_}
+use mathlib.Core.List.{List, [], _∷_, _++_, map, List·Memᴰ, List·Memᴰ·head, List·Memᴰ·tail, List·Memᴰ·cases-cons, List·Memᴰ·not-nil, List·Memᴰ·append-cases}
+use mathlib.Core.Option.{Option, none, some, Option·none-ne-some}
+use Prim.Native.Nat.{ℕ, zero, suc, _+_, _^_, _≤_, _<_}
+use native.Mathlib.Omega.{arith}
+use lib.Dec.{eqb, leb}
+use borrow.Author.Tests.{eq-eqb, ne-eqb, eqb-true, eqb-false, leb-false}
+use lib.ListN.{length, replicate, length-map}
+use Rattle.laws.specs.Base.{if_then_else_, keep, some-of, Each, Pairs}
+use Rattle.laws.proofs.Lists.{each-replicate, each-of, each-at, each-imp, each-by, pairs-imp, pairs-map, pairs-append, pairs-keep, kept-at, keep-at, some-yes, some-at, mem-left, mem-right, mem-map, map-mem, no-more, not-true}
+use Rattle.words.specs.declared.Ref.{Ref}
+use Rattle.words.specs.declared.Cell.{Cell}
+use Rattle.words.specs.declared.Cell.the-variants.{Unbound, Bound, Int, Head, Argument}
+use Rattle.words.specs.declared.Register.{Register}
+use Rattle.words.specs.declared.Register.the-variants as Reg
+use Rattle.machine.specs.Copies.{Limits, Page, Region, Copy, Machine, copies, withCopies, opening, bare, lists, held, stamped, live, shown, slots, inPages, inRegions, cellAt}
+use Rattle.machine.specs.Sound.{LimitsOk, Sound, CopyOk, RegionOk, Filled, RegisterIn, RegisterNames, Names, CellNames, Later, Grown, SamePages, TopGrown, RegionGrown, CopyGrown, PagesApart, NoReturn, IsVariable}
+
+pub later-refl : (w : Cell) → Later w w
+unfolding Later IsVariable
+later-refl Unbound = tt
+later-refl (Bound r) = refl
+later-refl (Int v) = refl
+later-refl (Head f n) = refl
+later-refl (Argument r) = refl
+
+pub grown-refl : (ws : List Cell) → Grown ws ws
+unfolding Grown
+grown-refl [] = tt
+grown-refl (w ∷ ws) = (later-refl w, grown-refl ws)
+
+pub same-refl : (ps : List Page) → SamePages ps ps
+unfolding SamePages
+same-refl [] = tt
+same-refl (p ∷ ps) = (refl, refl, grown-refl (p .words), same-refl ps)
+
+pub top-refl : (ps : List Page) → Filled ps → TopGrown ps ps
+unfolding TopGrown Filled
+top-refl [] h = absurd h
+top-refl (p ∷ ps) h = (refl, grown-refl (p .words), same-refl ps)
+
+-- two regions of one copy with one stamp are one
+pub one-region : (gs : List Region) → Pairs (λ (g h : Region). g .stamp < h .stamp) gs → (g h : Region) → List·Memᴰ g gs → List·Memᴰ h gs → g .stamp ≡ h .stamp → g ≡ h
+one-region [] o g h x y e = absurd (List·Memᴰ·not-nil x)
+one-region (k ∷ ks) o g h x y e = by (List·Memᴰ·cases-cons x) (List·Memᴰ·cases-cons y) (λ a b. one-region ks (o .1) g h a b e)
+  where
+    by : (g ≡ k) ⊎ List·Memᴰ g ks → (h ≡ k) ⊎ List·Memᴰ h ks → (List·Memᴰ g ks → List·Memᴰ h ks → g ≡ h) → g ≡ h
+    by (inl a) (inl b) ih = a ∙ sym b
+    by (inl a) (inr b) ih = absurd (omega (arith, each-at (λ (z : Region). k .stamp < z .stamp) ks (o .0) h b, ap (λ (z : Region). z .stamp) a, e))
+    by (inr a) (inl b) ih = absurd (omega (arith, each-at (λ (z : Region). k .stamp < z .stamp) ks (o .0) g a, ap (λ (z : Region). z .stamp) b, e))
+    by (inr a) (inr b) ih = ih a b
+
+pub copy-refl : (l : Limits) (next : ℕ) (c : Copy) → CopyOk l next c → CopyGrown c c
+unfolding CopyGrown
+copy-refl l next c k g h x y e =
+    let q : h ≡ g = one-region (c .regions) (k .in-order) h g y x (sym e) in
+    subst (λ (z : Region). RegionGrown z g) (sym q)
+    (record { joined = []; since = g .pages; split = refl; grown = top-refl (g .pages) (each-at (RegionOk l next) (c .regions) (k .regions) g x .filled) })
+
