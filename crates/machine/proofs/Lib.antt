@@ -1,3 +1,6 @@
 pub mod Growth
 pub mod Shown
-pub mod Onward
+pub mod Refuse
+pub mod Demand3
+pub mod Opened
+pub mod Table

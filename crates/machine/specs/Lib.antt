@@ -6,3 +6,5 @@ pub mod Tables
 pub mod Sound
 pub mod Calls
 pub mod Strike
+pub mod Demand3
+pub mod Cases
