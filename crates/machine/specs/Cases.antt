@@ -7,7 +7,7 @@ use mathlib.Core.Option.{none, some}
 use Prim.Native.Nat.{ℕ, zero, suc}
 use lib.Dec.{eqb}
 use lib.IntN.{ℤ, pos, negsuc}
-use lib.ListN.{length, getD, replicate}
+use lib.ListN.{getD, replicate}
 use Rattle.words.specs.declared.Ref.{Ref}
 use Rattle.words.specs.declared.Cell.the-variants.{Unbound, Bound, Int, Head, Argument}
 use Rattle.words.specs.declared.Step.{Step}
@@ -16,8 +16,8 @@ use Rattle.words.specs.declared.Answer.{Answer}
 use Rattle.words.specs.Words.{cellWord, linkWord}
 use Rattle.words.specs.Steps.{stepWord}
 use Rattle.words.specs.Answers.{answerWord, plain}
-use Rattle.machine.specs.Copies.{Machine, document, opening, free}
-use Rattle.machine.specs.Run.{answers, final}
+use Rattle.machine.specs.Copies.{Machine, document, opening}
+use Rattle.machine.specs.Run.{answers, final, stateOf}
 use Rattle.machine.specs.Image.{heapImage}
 
 -- ---- a case and its check
@@ -53,7 +53,8 @@ heapHolds h [] = true
 heapHolds h (x ∷ xs) = eqb (getD h (x .cell) 0) (x .word) && heapHolds h xs
 
 unfoldable pub endsAs : Machine → Case → Bool
-endsAs m c = heapHolds (heapImage m) (c .heap) && eqb (length (free m)) (c .free) && eqb (length (m .saved)) (c .choices) && eqb (m .next) (c .next)
+endsAs m c =
+    heapHolds (heapImage m) (c .heap) && eqb (stateOf m .free) (c .free) && eqb (stateOf m .choices) (c .choices) && eqb (stateOf m .next) (c .next)
 
 -- the steps go through their words, so that a case tests the decoder too
 unfoldable pub holds : Case → Bool
@@ -90,6 +91,11 @@ spread (suc n) d a = Deref d a ∷ spread n (suc d) a
 
 abbrev oks : ℕ → ℕ → List Answer
 oks n k = replicate n (sees k 0)
+
+-- so many accepted makes, the first of which gives that stamp
+abbrev makes : ℕ → ℕ → List Answer
+makes zero s = []
+makes (suc n) s = gives s ∷ makes n (suc s)
 
 -- ---- the table
 
@@ -490,5 +496,88 @@ cases =
       free = 0;
       choices = 0;
       next = 2;
+    }
+    -- destruct into two registers, the first of which held the structure; deref of a structure tells functor and arity in the top 20 bits
+    ∷ record {
+      pages = 1;
+      stamp = 1;
+      steps =
+          MakeRegion 0 ∷ Integer 1 0 (pos 5) ∷ MakeVar 2 0 ∷ Structure 3 0 1 9 2 ∷ Deref 4 3 ∷ Destruct 3 3 9 2 ∷ Deref 5 3 ∷ Deref 5 4 ∷ [];
+      answered = gives 1 ∷ ok ∷ ok ∷ ok ∷ sees 4 598016 ∷ ok ∷ sees 3 5 ∷ sees 1 0 ∷ [];
+      heap = 3 ↤ cellWord 12 (Head 9 2) ∷ 4 ↤ cellWord 12 (Argument (ref 1 1)) ∷ 5 ↤ cellWord 12 (Argument (ref 1 2)) ∷ [];
+      free = 0;
+      choices = 0;
+      next = 2;
+    }
+    -- a term that does not fit starts a page that joins; the slack before it stays lost; the next terms go to the newest page; links name the next page
+    ∷ record {
+      pages = 4;
+      stamp = 1;
+      steps = MakeRegion 0 ∷ MakeVar 1 0 ∷ MakeVar 1 0 ∷ spread 12 2 1 ++ (Structure 15 0 1 9 13 ∷ MakeVar 1 0 ∷ MakeVar 1 0 ∷ []);
+      answered = gives 1 ∷ ok ∷ ok ∷ oks 12 1 ++ (ok ∷ ok ∷ ok ∷ []);
+      heap =
+          0 ↤ linkWord 12 1 (some 1)
+          ∷ 2 ↤ cellWord 12 Unbound
+          ∷ 3 ↤ 0
+          ∷ 16 ↤ linkWord 12 1 (some 2)
+          ∷ 17 ↤ cellWord 12 (Head 9 13)
+          ∷ 31 ↤ cellWord 12 Unbound
+          ∷ 32 ↤ linkWord 12 1 none
+          ∷ 33 ↤ cellWord 12 Unbound
+          ∷ [];
+      free = 1;
+      choices = 0;
+      next = 2;
+    }
+    -- a backtrack takes that page off the list, and the older one is the newest again with its old fill
+    ∷ record {
+      pages = 2;
+      stamp = 1;
+      steps = MakeRegion 0 ∷ MakeVar 1 0 ∷ MakeVar 1 0 ∷ spread 12 2 1 ++ (PushChoice ∷ Structure 15 0 1 9 13 ∷ Backtrack ∷ MakeVar 1 0 ∷ []);
+      answered = gives 1 ∷ ok ∷ ok ∷ oks 12 1 ++ (ok ∷ ok ∷ ok ∷ ok ∷ []);
+      heap = 0 ↤ linkWord 12 1 none ∷ 3 ↤ cellWord 12 Unbound ∷ 4 ↤ 0 ∷ 16 ↤ 0 ∷ 17 ↤ 0 ∷ [];
+      free = 1;
+      choices = 0;
+      next = 2;
+    }
+    -- a stamp takes a slot while a saved copy has the region: the 65th stamp is refused until the cut
+    ∷ record {
+      pages = 65;
+      stamp = 1;
+      steps = replicate 64 (MakeRegion 0) ++ (PushChoice ∷ KillRegion 0 ∷ MakeRegion 0 ∷ Cut ∷ MakeRegion 0 ∷ MakeRegion 1 ∷ []);
+      answered = makes 64 1 ++ (ok ∷ ok ∷ plain 6 ∷ ok ∷ gives 65 ∷ plain 6 ∷ []);
+      heap = [];
+      free = 1;
+      choices = 0;
+      next = 66;
+    }
+    -- a register that holds no region: 3; no term: 4, at budget 0 too; a live variable bound to a dead cell passes unify's register test, and gives 4
+    -- with the pair counted; it is a good argument of op 5, and the argument is handed out dead or not
+    ∷ record {
+      pages = 2;
+      stamp = 1;
+      steps =
+          MakeRegion 0
+          ∷ MakeRegion 1
+          ∷ MakeVar 2 0
+          ∷ Integer 3 1 (pos 5)
+          ∷ Unify 2 3 1
+          ∷ KillRegion 1
+          ∷ MakeVar 4 2
+          ∷ MakeVar 4 1
+          ∷ Unify 0 2 0
+          ∷ Unify 3 2 1
+          ∷ Unify 2 2 1
+          ∷ Deref 4 2
+          ∷ Structure 4 0 2 9 1
+          ∷ Destruct 5 4 9 1
+          ∷ Destruct 6 5 9 1
+          ∷ [];
+      answered =
+          gives 1 ∷ gives 2 ∷ ok ∷ ok ∷ took 0 1 ∷ ok ∷ plain 3 ∷ plain 3 ∷ plain 4 ∷ plain 4 ∷ took 4 1 ∷ plain 4 ∷ ok ∷ ok ∷ plain 4 ∷ [];
+      heap = 1 ↤ cellWord 12 (Bound (ref 2 17)) ∷ 16 ↤ 0 ∷ 17 ↤ 0 ∷ [];
+      free = 1;
+      choices = 0;
+      next = 3;
     }
     ∷ []
