@@ -4,3 +4,4 @@ pub mod Refuse
 pub mod Demand3
 pub mod Opened
 pub mod Table
+pub mod Worked

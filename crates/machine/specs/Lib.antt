@@ -8,3 +8,5 @@ pub mod Calls
 pub mod Strike
 pub mod Demand3
 pub mod Cases
+pub mod Program
+pub mod Worked
