@@ -1,23 +1,15 @@
 -- A copy has grown from itself, and growth is carried on from copy to copy.
 use mathlib.Core.Path.{_≡_, refl, sym, ap, _∙_, subst}
-use mathlib.Core.Bool.{Bool, true, false, not, _||_, true≢false}
-use mathlib.Core.Logic.{_⊎_, inl, inr, _≢_}
-use mathlib.Core.List.{List, [], _∷_, _++_, map, List·Memᴰ, List·Memᴰ·head, List·Memᴰ·tail, List·Memᴰ·cases-cons, List·Memᴰ·not-nil, List·Memᴰ·append-cases, append-assoc}
-use mathlib.Core.Option.{Option, none, some, Option·none-ne-some}
-use Prim.Native.Nat.{ℕ, zero, suc, _+_, _^_, _≤_, _<_}
+use mathlib.Core.Logic.{_⊎_, inl, inr}
+use mathlib.Core.List.{List, [], _∷_, _++_, List·Memᴰ, List·Memᴰ·cases-cons, List·Memᴰ·not-nil, append-assoc}
+use Prim.Native.Nat.{ℕ, _<_}
 use native.Mathlib.Omega.{arith}
-use lib.Dec.{eqb, leb}
-use borrow.Author.Tests.{eq-eqb, ne-eqb, eqb-true, eqb-false, leb-false}
-use lib.ListN.{length, replicate, length-map}
-use Rattle.laws.specs.Base.{if_then_else_, keep, some-of, Each, Pairs}
-use Rattle.laws.proofs.Lists.{each-replicate, each-of, each-at, each-imp, each-by, pairs-imp, pairs-map, pairs-append, pairs-keep, kept-at, keep-at, some-yes, some-at, mem-left, mem-right, mem-map, map-mem, no-more, not-true}
-use Rattle.words.specs.declared.Ref.{Ref}
+use Rattle.laws.specs.Base.{Pairs}
+use Rattle.laws.proofs.Lists.{each-at}
 use Rattle.words.specs.declared.Cell.{Cell}
 use Rattle.words.specs.declared.Cell.the-variants.{Unbound, Bound, Int, Head, Argument}
-use Rattle.words.specs.declared.Register.{Register}
-use Rattle.words.specs.declared.Register.the-variants as Reg
-use Rattle.machine.specs.Copies.{Limits, Page, Region, Copy, Machine, copies, withCopies, opening, bare, lists, held, stamped, live, shown, slots, inPages, inRegions, cellAt}
-use Rattle.machine.specs.Sound.{LimitsOk, Sound, CopyOk, RegionOk, Filled, RegisterIn, RegisterNames, Names, CellNames, Later, Grown, SamePages, TopGrown, RegionGrown, CopyGrown, PagesApart, NoReturn, IsVariable}
+use Rattle.machine.specs.Copies.{Limits, Page, Region, Copy}
+use Rattle.machine.specs.Sound.{CopyOk, RegionOk, Filled, Later, Grown, SamePages, TopGrown, RegionGrown, CopyGrown, IsVariable}
 
 pub later-refl : (w : Cell) → Later w w
 unfolding Later IsVariable
