@@ -3,3 +3,4 @@ pub mod Shown
 pub mod Onward
 pub mod Registers
 pub mod Choices
+pub mod Kill
