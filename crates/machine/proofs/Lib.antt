@@ -4,3 +4,5 @@ pub mod Onward
 pub mod Registers
 pub mod Choices
 pub mod Kill
+pub mod Cells
+pub mod Follow
