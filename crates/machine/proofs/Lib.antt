@@ -1,3 +1,4 @@
 pub mod Growth
 pub mod Shown
 pub mod Onward
+pub mod Free
