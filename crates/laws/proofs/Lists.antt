@@ -5,7 +5,7 @@ use mathlib.Core.Logic.{_⊎_, inl, inr, _≢_}
 use mathlib.Core.List.{List, [], _∷_, _++_, map, List·Memᴰ, List·Memᴰ·head, List·Memᴰ·tail, List·Memᴰ·cases-cons, List·Memᴰ·not-nil}
 use Prim.Native.Nat.{ℕ, zero, suc, _≤_}
 use native.Mathlib.Omega.{arith}
-use lib.ListN.{length, replicate}
+use lib.ListN.{length, getD, set, replicate}
 use Rattle.laws.specs.Base.{if_then_else_, keep, some-of, Each, Pairs}
 
 pub each-replicate : {A : Type 0} (P : A → Type 0) (n : ℕ) (x : A) → P x → Each P (replicate n x)
@@ -172,3 +172,15 @@ map-mem f (z ∷ zs) x y h e = by (List·Memᴰ·cases-cons h) (λ k. map-mem f 
     by : (x ≡ z) ⊎ List·Memᴰ x zs → (List·Memᴰ x zs → List·Memᴰ y (map f zs)) → List·Memᴰ y (f z ∷ map f zs)
     by (inl q) ih = List·Memᴰ·head (e ∙ ap f q)
     by (inr m) ih = List·Memᴰ·tail (ih m)
+
+-- one element written: the others stay, and past the end nothing is written
+pub each-set : {A : Type 0} (P : A → Type 0) (l : List A) (i : ℕ) (x : A) → Each P l → P x → Each P (set l i x)
+each-set P [] i x h k = tt
+each-set P (y ∷ ys) zero x h k = (k, h .1)
+each-set P (y ∷ ys) (suc i) x h k = (h .0, each-set P ys i x (h .1) k)
+
+-- one element read: past the end it is the default
+pub each-getD : {A : Type 0} (P : A → Type 0) (l : List A) (i : ℕ) (x : A) → Each P l → P x → P (getD l i x)
+each-getD P [] i x h k = k
+each-getD P (y ∷ ys) zero x h k = h .0
+each-getD P (y ∷ ys) (suc i) x h k = each-getD P ys i x (h .1) k

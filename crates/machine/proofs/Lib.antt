@@ -1,5 +1,7 @@
 pub mod Growth
 pub mod Shown
 pub mod Onward
+pub mod Registers
+pub mod Choices
 pub mod Free
 pub mod Put
