@@ -6,3 +6,5 @@ pub mod Choices
 pub mod Kill
 pub mod Cells
 pub mod Follow
+pub mod Free
+pub mod Put
