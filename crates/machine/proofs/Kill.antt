@@ -8,16 +8,16 @@ use Prim.Native.Nat.{ℕ, _<_}
 use lib.Dec.{eqb}
 use borrow.Author.Tests.{ne-eqb, eqb-true, eqb-false}
 use Rattle.laws.specs.Base.{if_then_else_, keep}
-use Rattle.laws.proofs.Lists.{each-at, each-by, each-imp, pairs-keep, kept-at, some-yes, some-at, not-true}
+use Rattle.laws.proofs.Lists.{each-at, each-by, pairs-keep, kept-at, some-yes, some-at, not-true}
 use Rattle.words.specs.declared.Ref.{Ref}
 use Rattle.words.specs.declared.Cell.{Cell}
 use Rattle.words.specs.declared.Step.the-variants.{KillRegion}
-use Rattle.machine.specs.Copies.{Limits, Region, Copy, Machine, withCopies, stamped, live, inPages, inRegions, cellAt}
+use Rattle.machine.specs.Copies.{Limits, Region, Copy, Machine, stamped, live, inPages, inRegions, cellAt}
 use Rattle.machine.specs.Run.{exec, kill, within, regionAt}
-use Rattle.machine.specs.Sound.{Sound, CopyOk, RegionOk, RegisterNames, Names}
+use Rattle.machine.specs.Sound.{Sound, CopyOk, RegionOk, Names}
 use Rattle.machine.proofs.Growth.{region-refl}
 use Rattle.machine.proofs.Onward.{Onward, onward-sound}
-use Rattle.machine.proofs.Registers.{register-names, cell-names}
+use Rattle.machine.proofs.Registers.{registers-kept, cells-kept}
 
 module _ (c : Copy) (t : ℕ) where
   abbrev other : Region → Bool
@@ -74,10 +74,10 @@ module _ (c : Copy) (t : ℕ) where
       record {
         registers = k .registers;
         registers-in = k .registers-in;
-        registers-name = each-imp (RegisterNames c) (RegisterNames killed) (c .registers) (λ x m. register-names c killed still-names x) (k .registers-name);
+        registers-name = registers-kept l next c killed (λ r i. still-names r) k;
         regions = each-by (RegionOk l next) (keep other (c .regions)) (λ g m. each-at (RegionOk l next) (c .regions) (k .regions) g (kept-at other (c .regions) g m .0));
         in-order = pairs-keep (λ (g h : Region). g .stamp < h .stamp) other (c .regions) (k .in-order);
-        cells-name = λ r w e. cell-names c killed still-names (λ s v q h. (v, was-cell s v q, h)) r w (k .cells-name r w (was-cell r w e));
+        cells-name = λ r w e. cells-kept l next c killed (λ s i. still-names s) k (λ s v q h. (v, was-cell s v q, h)) r w (was-cell r w e);
       }
 
 killed-onward : (m : Machine) (t : ℕ) → Sound m → Onward m t (killed (m .present) t)
