@@ -8,3 +8,4 @@ pub mod Cells
 pub mod Follow
 pub mod Free
 pub mod Put
+pub mod Make
