@@ -5,3 +5,6 @@ pub mod Registers
 pub mod Choices
 pub mod Cells
 pub mod Follow
+pub mod Bind
+pub mod DerefSound
+pub mod UnifySound
