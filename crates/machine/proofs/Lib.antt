@@ -3,8 +3,11 @@ pub mod Shown
 pub mod Onward
 pub mod Registers
 pub mod Choices
+pub mod Kill
 pub mod Cells
 pub mod Follow
+pub mod Free
+pub mod Put
 pub mod Bind
 pub mod DerefSound
 pub mod UnifySound
