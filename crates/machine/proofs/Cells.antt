@@ -3,18 +3,18 @@ use mathlib.Core.Path.{_≡_, refl, sym, ap, ap₂, _∙_, subst}
 use mathlib.Core.Bool.{Bool, true, false}
 use mathlib.Core.Logic.{_⊎_, inl, inr, _≢_}
 use mathlib.Core.List.{List, [], _∷_, map, List·Memᴰ, List·Memᴰ·head, List·Memᴰ·tail, List·Memᴰ·cases-cons, List·Memᴰ·not-nil, List·Nodup, nodup-cons}
-use mathlib.Core.Option.{Option, none, some, Option·none-ne-some, Option·some-injective}
-use Prim.Native.Nat.{ℕ, zero, suc, _-_, _/_, _%_, _≤_, _<_}
+use mathlib.Core.Option.{some, Option·none-ne-some, Option·some-injective}
+use Prim.Native.Nat.{ℕ, zero, suc, _-_, _/_, _%_, _≤_}
 use native.Mathlib.Omega.{arith}
 use lib.Dec.{eqb}
-use borrow.Author.Tests.{eq-eqb, ne-eqb, eqb-true, eqb-false}
-use lib.ListN.{set, getElem?}
+use borrow.Author.Tests.{eq-eqb, eqb-true, eqb-false}
+use lib.ListN.{length, set, getElem?, length-set}
 use Rattle.laws.specs.Base.{if_then_else_, some-of}
 use Rattle.laws.proofs.Lists.{each-at, some-yes, map-mem}
 use Rattle.words.specs.declared.Ref.{Ref}
 use Rattle.words.specs.declared.Cell.{Cell}
-use Rattle.machine.specs.Copies.{Limits, Page, Region, Copy, stamped, live, word, inPages, inRegions, cellAt, setPage, setRegion, setCell}
-use Rattle.machine.specs.Sound.{CopyOk, RegionOk, PageOk, StampIn, PageIn, RefIn, CellIn}
+use Rattle.machine.specs.Copies.{Limits, Page, Region, Copy, stamped, live, lists, word, inPages, inRegions, cellAt, setPage, setRegion, setCell}
+use Rattle.machine.specs.Sound.{CopyOk, RegionOk, PageOk, Filled, StampIn, PageIn, RefIn, CellIn}
 use Rattle.machine.proofs.Growth.{one-region}
 
 -- ---- where a cell that is found stands
@@ -152,6 +152,24 @@ number-set r w p = by (eqb (p .number) (r .address / 16))
     by true = refl
     by false = refl
 
+pub length-words-set : (r : Ref) (w : Cell) (p : Page) → length (setPage r w p .words) ≡ length (p .words)
+unfolding setPage
+length-words-set r w p = by (eqb (p .number) (r .address / 16))
+  where
+    by : (t : Bool) → length ((if t then record { number = p .number; words = set (p .words) (r .address % 16 - 1) w } else p) .words) ≡ length (p .words)
+    by true = length-set (p .words) (r .address % 16 - 1) w
+    by false = refl
+
+pub numbers-set : (r : Ref) (w : Cell) (ps : List Page) → map (λ (p : Page). p .number) (map (setPage r w) ps) ≡ map (λ (p : Page). p .number) ps
+numbers-set r w [] = refl
+numbers-set r w (p ∷ ps) = ap₂ (λ (n : ℕ) (ns : List ℕ). n ∷ ns) (number-set r w p) (numbers-set r w ps)
+
+pub filled-set : (r : Ref) (w : Cell) (ps : List Page) → Filled ps → Filled (map (setPage r w) ps)
+unfolding Filled
+filled-set r w [] h = h
+filled-set r w (p ∷ []) h = h
+filled-set r w (p ∷ q ∷ ps) h = (rw (length-words-set r w p) (h .0), filled-set r w (q ∷ ps) (h .1))
+
 pub stamp-set : (r : Ref) (w : Cell) (g : Region) → setRegion r w g .stamp ≡ g .stamp
 unfolding setRegion
 stamp-set r w g = by (eqb (g .stamp) (r .stamp))
@@ -167,6 +185,19 @@ live-set r w c s = at (c .regions)
     at : (gs : List Region) → some-of (stamped s) (map (setRegion r w) gs) ≡ some-of (stamped s) gs
     at [] = refl
     at (g ∷ gs) = rw (stamp-set r w g, at gs)
+
+-- a region lists the same pages
+pub lists-set : (r : Ref) (w : Cell) (p : ℕ) (g : Region) → lists p (setRegion r w g) ≡ lists p g
+unfolding setRegion
+lists-set r w p g = by (eqb (g .stamp) (r .stamp))
+  where
+    at : (ps : List Page) → some-of (λ (q : Page). eqb (q .number) p) (map (setPage r w) ps) ≡ some-of (λ (q : Page). eqb (q .number) p) ps
+    at [] = refl
+    at (q ∷ qs) = rw (number-set r w q, at qs)
+
+    by : (t : Bool) → lists p (if t then record { stamp = g .stamp; pages = map (setPage r w) (g .pages) } else g) ≡ lists p g
+    by true = at (g .pages)
+    by false = refl
 
 module _ (r : Ref) (w : Cell) where
   pages-same : (ps : List Page) (old : Cell) → inPages ps (r .address) ≡ some old → inPages (map (setPage r w) ps) (r .address) ≡ some w

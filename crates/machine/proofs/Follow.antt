@@ -5,7 +5,7 @@ use mathlib.Core.Bool.{Bool, true, false}
 use mathlib.Core.Logic.{_⊎_, inl, inr}
 use mathlib.Core.List.{List, [], _∷_, _++_, append-assoc, List·Memᴰ}
 use mathlib.Core.Option.{Option, none, some, Option·none-ne-some, Option·some-injective}
-use Prim.Native.Nat.{ℕ, zero, suc, _+_, _*_, _/_, _^_, _≤_, _<_}
+use Prim.Native.Nat.{ℕ, zero, suc, _+_, _^_, _≤_, _<_}
 use native.Mathlib.Nat.{pow-le-pow-right}
 use native.Mathlib.Omega.{arith}
 use lib.Dec.{eqb, ltb}
@@ -15,10 +15,9 @@ use Rattle.laws.proofs.Lists.{each-at}
 use Rattle.words.specs.declared.Ref.{Ref}
 use Rattle.words.specs.declared.Cell.{Cell}
 use Rattle.words.specs.declared.Cell.the-variants.{Unbound, Bound, Int, Head, Argument}
-use Rattle.machine.specs.declared.Found.{Found}
 use Rattle.machine.specs.declared.Found.the-variants.{Dead, At}
 use Rattle.machine.specs.Copies.{Limits, Copy, Machine, copies, cellAt}
-use Rattle.machine.specs.Unify.{onCell, follow, rank, deref, onArgument, argumentsAt, younger, Pair, Taken, differ, died, go, take, Solved, solved, tookPair, solve}
+use Rattle.machine.specs.Unify.{onCell, follow, rank, deref, onArgument, argumentsAt, younger, Pair, Taken, differ, died, go, take, Solved, tookPair, solve}
 use Rattle.machine.specs.Sound.{Sound, LimitsOk, CopyOk, RefIn, CellIn, CellNames, IsVariable, Starts, Names}
 use Rattle.machine.proofs.Cells.{ref-in, cell-in}
 
@@ -128,7 +127,7 @@ Ends (Int v) = Unit {0}
 Ends (Head f n) = Unit {0}
 Ends (Argument r) = ⊥
 
-dead-not-at : (r : Ref) (w : Cell) → Dead ≡ At r w → ⊥
+pub dead-not-at : (r : Ref) (w : Cell) → Dead ≡ At r w → ⊥
 dead-not-at r w e = let z : _≡_ {A = ℕ} 0 1 = cc in omega arith
 
 at-here : (c : Copy) (r s : Ref) (v w : Cell) → cellAt c r ≡ some v → Ends v → At r v ≡ At s w → (cellAt c s ≡ some w) × Ends w
@@ -156,9 +155,9 @@ pub deref-at : (c : Copy) (r s : Ref) (w : Cell) → deref c r ≡ At s w → (c
 unfolding deref
 deref-at c r s w e = follow-at (rank r + 2) c r s w e
 
--- what register may hold: a reference in range that, if its region is in the copy, names a cell
-abbrev pub Holds : Limits → ℕ → Copy → Ref → Type 0
-Holds l next c r = RefIn l next r × Names c r
+-- what a register may hold: a reference in range that, if its region is in the copy, names a cell
+abbrev pub GoodRef : Limits → ℕ → Copy → Ref → Type 0
+GoodRef l next c r = RefIn l next r × Names c r
 
 ends-start : (w : Cell) → Ends w → Starts w
 unfolding Ends Starts
@@ -168,26 +167,26 @@ ends-start (Int v) h = tt
 ends-start (Head f n) h = tt
 ends-start (Argument r) h = h
 
-pub cell-names : (c : Copy) (r : Ref) (w : Cell) → cellAt c r ≡ some w → Ends w → Names c r
+pub end-names : (c : Copy) (r : Ref) (w : Cell) → cellAt c r ≡ some w → Ends w → Names c r
 unfolding Names
-cell-names c r w e k h = (w, e, ends-start w k)
+end-names c r w e k h = (w, e, ends-start w k)
 
 module _ (l : Limits) (next : ℕ) (c : Copy) (ok : CopyOk l next c) where
-  pub deref-holds : (r s : Ref) (w : Cell) → deref c r ≡ At s w → Holds l next c s
-  deref-holds r s w e =
+  pub deref-good : (r s : Ref) (w : Cell) → deref c r ≡ At s w → GoodRef l next c s
+  deref-good r s w e =
       let k = deref-at c r s w e in
-      (ref-in l next c ok s w (k .0), cell-names c s w (k .0) (k .1))
+      (ref-in l next c ok s w (k .0), end-names c s w (k .0) (k .1))
 
   -- the arguments of a structure
-  pub arguments-hold : (n : ℕ) (r : Ref) → Each (Holds l next c) (argumentsAt n c r)
+  pub arguments-good : (n : ℕ) (r : Ref) → Each (GoodRef l next c) (argumentsAt n c r)
   unfolding argumentsAt onArgument CellIn CellNames
-  arguments-hold zero r = tt
-  arguments-hold (suc n) r = by (cellAt c (after r)) refl (arguments-hold n (after r))
+  arguments-good zero r = tt
+  arguments-good (suc n) r = by (cellAt c (after r)) refl (arguments-good n (after r))
     where
       after : Ref → Ref
       after q = record { stamp = q .stamp; address = suc (q .address) }
 
-      by : (o : Option Cell) → cellAt c (after r) ≡ o → Each (Holds l next c) (argumentsAt n c (after r)) → Each (Holds l next c) (onArgument o (argumentsAt n c (after r)))
+      by : (o : Option Cell) → cellAt c (after r) ≡ o → Each (GoodRef l next c) (argumentsAt n c (after r)) → Each (GoodRef l next c) (onArgument o (argumentsAt n c (after r)))
       by none q ih = tt
       by (some Unbound) q ih = tt
       by (some (Bound s)) q ih = tt

@@ -93,7 +93,7 @@ top-onward (o ∷ os) (p ∷ ps) [] h k = absurd k
 top-onward (o ∷ os) (p ∷ ps) (q ∷ qs) h k =
     (h .0 ∙ k .0, grown-onward (o .words) (p .words) (q .words) (h .1) (k .1), same-onward os ps qs (h .2) (k .2))
 
-same-top : (p : Page) (ps qs : List Page) → SamePages (p ∷ ps) qs → TopGrown (p ∷ ps) qs
+pub same-top : (p : Page) (ps qs : List Page) → SamePages (p ∷ ps) qs → TopGrown (p ∷ ps) qs
 unfolding SamePages TopGrown
 same-top p ps [] h = absurd h
 same-top p ps (q ∷ qs) h = (h .0, h .2, h .3)

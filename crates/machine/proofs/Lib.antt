@@ -9,3 +9,6 @@ pub mod Follow
 pub mod Free
 pub mod Put
 pub mod Make
+pub mod Bind
+pub mod DerefSound
+pub mod UnifySound
