@@ -5,3 +5,4 @@ pub mod Registers
 pub mod Choices
 pub mod Free
 pub mod Put
+pub mod Build
