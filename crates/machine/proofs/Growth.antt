@@ -45,12 +45,15 @@ one-region (k ∷ ks) o g h x y e = by (List·Memᴰ·cases-cons x) (List·Mem�
     by (inr a) (inl b) ih = absurd (omega (arith, each-at (λ (z : Region). k .stamp < z .stamp) ks (o .0) g a, ap (λ (z : Region). z .stamp) b, e))
     by (inr a) (inr b) ih = ih a b
 
+-- a good region has grown from itself, and so has each region of a good copy
+pub region-refl : (l : Limits) (next : ℕ) (g : Region) → RegionOk l next g → RegionGrown g g
+region-refl l next g k = record { joined = []; since = g .pages; split = refl; grown = top-refl (g .pages) (k .filled) }
+
 pub copy-refl : (l : Limits) (next : ℕ) (c : Copy) → CopyOk l next c → CopyGrown c c
 unfolding CopyGrown
 copy-refl l next c k g h x y e =
     let q : h ≡ g = one-region (c .regions) (k .in-order) h g y x (sym e) in
-    subst (λ (z : Region). RegionGrown z g) (sym q)
-    (record { joined = []; since = g .pages; split = refl; grown = top-refl (g .pages) (each-at (RegionOk l next) (c .regions) (k .regions) g x .filled) })
+    subst (λ (z : Region). RegionGrown z g) (sym q) (region-refl l next g (each-at (RegionOk l next) (c .regions) (k .regions) g x))
 
 -- ---- growth goes on: what has grown twice has grown
 

@@ -3,6 +3,9 @@ pub mod Shown
 pub mod Onward
 pub mod Registers
 pub mod Choices
+pub mod Kill
+pub mod Cells
+pub mod Follow
 pub mod Free
 pub mod Put
 pub mod Build
