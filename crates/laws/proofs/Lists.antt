@@ -98,9 +98,15 @@ pub each-imp : {A : Type 0} (P Q : A → Type 0) (l : List A) → ((x : A) → L
 each-imp P Q [] h e = tt
 each-imp P Q (x ∷ xs) h e = (h x (List·Memᴰ·head refl) (e .0), each-imp P Q xs (λ y m. h y (List·Memᴰ·tail m)) (e .1))
 
+pub pairs-imp-at : {A : Type 0} (P Q : A → A → Type 0) (l : List A) → ((x y : A) → List·Memᴰ x l → List·Memᴰ y l → P x y → Q x y) → Pairs P l → Pairs Q l
+pairs-imp-at P Q [] h e = tt
+pairs-imp-at P Q (x ∷ xs) h e = (
+  each-imp (P x) (Q x) xs (λ y m. h x y (List·Memᴰ·head refl) (List·Memᴰ·tail m)) (e .0),
+  pairs-imp-at P Q xs (λ y z m n. h y z (List·Memᴰ·tail m) (List·Memᴰ·tail n)) (e .1),
+)
+
 pub pairs-imp : {A : Type 0} (P Q : A → A → Type 0) (l : List A) → ((x y : A) → P x y → Q x y) → Pairs P l → Pairs Q l
-pairs-imp P Q [] h e = tt
-pairs-imp P Q (x ∷ xs) h e = (each-imp (P x) (Q x) xs (λ y m. h x y) (e .0), pairs-imp P Q xs h (e .1))
+pairs-imp P Q l h = pairs-imp-at P Q l (λ x y m n. h x y)
 
 pub each-append : {A : Type 0} (P : A → Type 0) (a b : List A) → Each P a → Each P b → Each P (a ++ b)
 each-append P [] b h k = k
