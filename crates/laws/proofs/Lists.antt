@@ -3,10 +3,11 @@ use mathlib.Core.Path.{_≡_, refl, sym, ap, _∙_, subst}
 use mathlib.Core.Bool.{Bool, true, false, not, _||_, true≢false}
 use mathlib.Core.Logic.{_⊎_, inl, inr, _≢_}
 use mathlib.Core.List.{List, [], _∷_, _++_, map, List·Memᴰ, List·Memᴰ·head, List·Memᴰ·tail, List·Memᴰ·cases-cons, List·Memᴰ·not-nil}
+use mathlib.Core.Option.{some, Option·none-ne-some, Option·some-injective}
 use Prim.Native.Nat.{ℕ, zero, suc, _≤_}
 use native.Mathlib.Omega.{arith}
 use lib.ListN.{length, getD, set, replicate}
-use Rattle.laws.specs.Base.{if_then_else_, keep, some-of, Each, Pairs}
+use Rattle.laws.specs.Base.{if_then_else_, keep, first, some-of, Each, Pairs}
 
 pub each-replicate : {A : Type 0} (P : A → Type 0) (n : ℕ) (x : A) → P x → Each P (replicate n x)
 each-replicate P zero x h = tt
@@ -146,6 +147,15 @@ some-at {A} f (y ∷ ys) e = by (f y) refl e (λ k. some-at f ys k)
     by : (t : Bool) → f y ≡ t → (t || some-of f ys) ≡ true → (some-of f ys ≡ true → (x : A) × List·Memᴰ x ys × (f x ≡ true)) → (x : A) × List·Memᴰ x (y ∷ ys) × (f x ≡ true)
     by true q k ih = (y, List·Memᴰ·head refl, q)
     by false q k ih = (ih k .0, List·Memᴰ·tail (ih k .1), ih k .2)
+
+-- what is found first passes the test, and is there
+pub first-at : {A : Type 0} (f : A → Bool) (l : List A) (x : A) → first f l ≡ some x → List·Memᴰ x l × (f x ≡ true)
+first-at f [] x e = absurd (Option·none-ne-some x e)
+first-at f (y ∷ ys) x e = by (f y) refl e (λ k. first-at f ys x k)
+  where
+    by : (t : Bool) → f y ≡ t → (if t then some y else first f ys) ≡ some x → (first f ys ≡ some x → List·Memᴰ x ys × (f x ≡ true)) → List·Memᴰ x (y ∷ ys) × (f x ≡ true)
+    by true q k ih = let z : y ≡ x = Option·some-injective y x k in (List·Memᴰ·head (sym z), ap f (sym z) ∙ q)
+    by false q k ih = (List·Memᴰ·tail (ih k .0), ih k .1)
 
 pub not-true : (b : Bool) → not b ≡ true → b ≡ false
 not-true true e = sym e

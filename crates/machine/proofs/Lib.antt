@@ -12,3 +12,4 @@ pub mod Make
 pub mod Bind
 pub mod DerefSound
 pub mod UnifySound
+pub mod Build

@@ -3,7 +3,7 @@ use mathlib.Core.Path.{_≡_, refl, sym, ap, _∙_, subst}
 use mathlib.Core.Bool.{Bool, true, false, _||_}
 use mathlib.Core.Logic.{_⊎_, inl, inr, ∥∥₁-elim}
 use mathlib.Core.HLevel.{⊥-prop}
-use mathlib.Core.List.{List, [], _∷_, _++_, map, List·Memᴰ, List·Memᴰ·head, List·Memᴰ·tail, List·Nodup, nodup-cons}
+use mathlib.Core.List.{List, [], _∷_, _++_, map, List·Memᴰ, List·Nodup, nodup-cons}
 use mathlib.Core.Option.{Option, none, some, Option·none-ne-some, Option·some-injective}
 use Prim.Native.Nat.{ℕ, zero, suc, _+_, _*_, _/_, _%_, _≤_, _<_}
 use native.Mathlib.Nat.{zero-add, suc-add}
@@ -18,6 +18,7 @@ use Rattle.words.specs.declared.Cell.the-variants.{Unbound, Bound, Int, Head, A
 use Rattle.machine.specs.Copies.{Limits, Page, Region, lists, word, inPages, Put, onNew, put}
 use Rattle.machine.specs.Sound.{PageIn, CellIn, Whole, PageOk, Filled, RegionOk, Grown, TopGrown, RegionGrown}
 use Rattle.machine.proofs.Growth.{later-refl, same-refl, top-refl}
+use Rattle.machine.proofs.Cells.{word-found, page-found}
 
 -- ---- words behind words
 
@@ -30,13 +31,9 @@ at-right : (vs ws : List Cell) (i : ℕ) → getElem? (vs ++ ws) (length vs + i)
 at-right [] ws i = rw zero-add
 at-right (v ∷ vs) ws i = rw suc-add (at-right vs ws i)
 
-at-mem : (ws : List Cell) (i : ℕ) (w : Cell) → getElem? ws i ≡ some w → List·Memᴰ w ws
-at-mem [] i w e = absurd (Option·none-ne-some w e)
-at-mem (v ∷ vs) zero w e = List·Memᴰ·head (sym (Option·some-injective v w e))
-at-mem (v ∷ vs) (suc i) w e = List·Memᴰ·tail (at-mem vs i w e)
-
 at-back : (vs ws : List Cell) (i : ℕ) (w : Cell) → getElem? (vs ++ ws) i ≡ some w → (getElem? vs i ≡ some w) ⊎ List·Memᴰ w ws
-at-back [] ws i w e = inr (at-mem ws i w e)
+unfolding word
+at-back [] ws i w e = inr (word-found ws (suc i) w e .1)
 at-back (v ∷ vs) ws zero w e = inl e
 at-back (v ∷ vs) ws (suc i) w e = at-back vs ws i w e
 
@@ -100,6 +97,7 @@ page-back p qs ws x w = by (eqb (p .number) (x / 16))
     by true e = word-back (p .words) ws (x % 16) w e
     by false e = inl e
 
+-- the new words stand behind the old
 page-new : (p : Page) (qs : List Page) (ws : List Cell) (i : ℕ) → length (p .words) + i < 15 →
     inPages (behind p ws ∷ qs) (p .number * 16 + suc (length (p .words)) + i) ≡ getElem? ws i
 unfolding inPages word
@@ -116,16 +114,10 @@ numbered n q = eqb (q .number) n
 
 -- an address with a word is on a page of the list
 in-listed : (ps : List Page) (x : ℕ) (w : Cell) → inPages ps x ≡ some w → some-of (numbered (x / 16)) ps ≡ true
-unfolding inPages
-in-listed [] x w e = absurd (Option·none-ne-some w e)
-in-listed (p ∷ ps) x w e = by (eqb (p .number) (x / 16)) e (λ k. in-listed ps x w k)
-  where
-    by : (t : Bool) → (if t then word (p .words) (x % 16) else inPages ps x) ≡ some w → (inPages ps x ≡ some w → some-of (numbered (x / 16)) ps ≡ true) →
-        (t || some-of (numbered (x / 16)) ps) ≡ true
-    by true k ih = refl
-    by false k ih = ih k
+in-listed ps x w e = let k = page-found ps x w e in some-yes (numbered (x / 16)) ps (k .0) (k .1) (eq-eqb (k .0 .number) (x / 16) (k .2))
 
--- p is the newest page and qs are the others, p with room for the term: the region's own pages, or with a page that joined
+-- the term goes behind the words of p, and qs are the older pages: the region's own pages, or these below a page that joins.
+-- So both ways to put a term are one from here on.
 record Room (l : Limits) (next : ℕ) (page : Option ℕ) (g : Region) (p : Page) (qs : List Page) : Type 0 where
   pages : Each (PageOk l next) (p ∷ qs)
   no-page-twice : List·Nodup (map (λ (q : Page). q .number) (p ∷ qs))
@@ -134,17 +126,19 @@ record Room (l : Limits) (next : ℕ) (page : Option ℕ) (g : Region) (p : Page
   grown : (ws : List Cell) → RegionGrown g (record { stamp = g .stamp; pages = behind p ws ∷ qs })
   listed : (n : ℕ) → some-of (numbered n) (p ∷ qs) ≡ true → (lists n g ≡ true) ⊎ (page ≡ some n)
 
+-- a page with a word in the newest one's place, or above it
+filled-over : (p : Page) (qs : List Page) → Filled (p ∷ qs) → (q : Page) → 1 ≤ length (q .words) → Filled (q ∷ qs)
+unfolding Filled
+filled-over p [] f q h = tt
+filled-over p (r ∷ rs) f q h = (h, f .1)
+
+filled-on : (ps : List Page) → Filled ps → (q : Page) → 1 ≤ length (q .words) → Filled (q ∷ ps)
+unfolding Filled
+filled-on [] f q h = tt
+filled-on (r ∷ rs) f q h = (h, f)
+
 module _ (l : Limits) (next : ℕ) (g : Region) (ok : RegionOk l next g) where
-  filled-over : (p : Page) (qs : List Page) → Filled (p ∷ qs) → (q : Page) → 1 ≤ length (q .words) → Filled (q ∷ qs)
-  unfolding Filled
-  filled-over p [] f q h = tt
-  filled-over p (r ∷ rs) f q h = (h, f .1)
-
-  filled-on : (ps : List Page) → Filled ps → (q : Page) → 1 ≤ length (q .words) → Filled (q ∷ ps)
-  unfolding Filled
-  filled-on [] f q h = tt
-  filled-on (r ∷ rs) f q h = (h, f)
-
+  -- the region's newest page has room
   top-room : (page : Option ℕ) (p : Page) (qs : List Page) → g .pages ≡ p ∷ qs → Room l next page g p qs
   unfolding TopGrown
   top-room page p qs e = record {
@@ -217,12 +211,15 @@ module _ (l : Limits) (next : ℕ) (page : Option ℕ) (ws : List Cell) (g : Reg
   room-region p qs r h = record {
     stamp = ok .stamp;
     filled = r .filled (behind p ws) (omega (arith, length-append (p .words) ws, term .least));
-    pages = (record {
-      number = r .pages .0 .number;
-      fill = omega (arith, length-append (p .words) ws);
-      whole = whole-append 0 (p .words) ws (r .pages .0 .whole) (term .whole);
-      cells = each-append (CellIn l next) (p .words) ws (r .pages .0 .cells) (term .cells);
-    }, r .pages .1);
+    pages = (
+      record {
+        number = r .pages .0 .number;
+        fill = omega (arith, length-append (p .words) ws);
+        whole = whole-append 0 (p .words) ws (r .pages .0 .whole) (term .whole);
+        cells = each-append (CellIn l next) (p .words) ws (r .pages .0 .cells) (term .cells);
+      },
+      r .pages .1,
+    );
     no-page-twice = r .no-page-twice;
   }
 
