@@ -19,7 +19,7 @@ use Rattle.machine.proofs.Cells.{cell-in}
 -- ---- from a copy c to a copy d, in which the references that are `Ok` still name what they have to
 
 -- a variable of d was one in c
-abbrev Were : Copy → Copy → Type 0
+abbrev pub Were : Copy → Copy → Type 0
 Were c d = (r : Ref) (w : Cell) → cellAt d r ≡ some w → IsVariable w → (v : Cell) × (cellAt c r ≡ some v) × IsVariable v
 
 module _ (Ok : Ref → Type 0) (c d : Copy) (still : (r : Ref) → Ok r → Names c r → Names d r) where
@@ -42,8 +42,7 @@ module _ (c d : Copy) (still : (r : Ref) → Names c r → Names d r) where
   pub register-names : (x : Register) → RegisterNames c x → RegisterNames d x
   register-names x = register-if (λ r. Unit {0}) c d (λ r u. still r) x (λ r e. tt)
 
-  pub cell-names : ((r : Ref) (w : Cell) → cellAt d r ≡ some w → IsVariable w → (v : Cell) × (cellAt c r ≡ some v) × IsVariable v) →
-      (r : Ref) (w : Cell) → CellNames c r w → CellNames d r w
+  pub cell-names : Were c d → (r : Ref) (w : Cell) → CellNames c r w → CellNames d r w
   cell-names was r w = cell-if (λ s. Unit {0}) c d (λ s u. still s) was r w (λ s e. tt)
 
 -- what a cell in range refers to is in range
