@@ -10,16 +10,16 @@ use lib.Dec.{eqb}
 use borrow.Author.Tests.{eq-eqb, eqb-true, le-ltb}
 use lib.ListN.{set, getElem?, length-set}
 use Rattle.laws.specs.Base.{if_then_else_, Each, Pairs}
-use Rattle.laws.proofs.Lists.{each-by, each-at, each-map, each-imp, each-set, pairs-map, pairs-imp, mem-map}
+use Rattle.laws.proofs.Lists.{each-by, each-at, each-map, each-set, pairs-map, pairs-imp, mem-map}
 use Rattle.words.specs.declared.Ref.{Ref}
 use Rattle.words.specs.declared.Cell.{Cell}
 use Rattle.words.specs.declared.Cell.the-variants.{Unbound, Bound, Int, Head, Argument}
 use Rattle.machine.specs.Copies.{Limits, Page, Region, Copy, Machine, lists, held, word, cellAt, setPage, setRegion, setCell}
 use Rattle.machine.specs.Unify.{younger}
-use Rattle.machine.specs.Sound.{CopyOk, RegionOk, PageOk, Filled, Whole, RefIn, CellIn, Names, CellNames, RegisterNames, Starts, IsVariable, Later, Grown, SamePages, TopGrown, RegionGrown, CopyGrown}
-use Rattle.machine.proofs.Growth.{later-refl, grown-refl, copy-refl, same-top, region-onward}
+use Rattle.machine.specs.Sound.{CopyOk, RegionOk, PageOk, Filled, Whole, RefIn, CellIn, Names, CellNames, Starts, IsVariable, Later, Grown, SamePages, TopGrown, RegionGrown}
+use Rattle.machine.proofs.Growth.{later-refl, grown-refl, region-refl, same-top, region-onward}
 use Rattle.machine.proofs.Onward.{Onward, Listed}
-use Rattle.machine.proofs.Registers.{register-names, cell-names}
+use Rattle.machine.proofs.Registers.{registers-kept, cells-kept}
 use Rattle.machine.proofs.Cells.{ref-in, own-word, number-set, numbers-set, length-words-set, filled-set, stamp-set, live-set, lists-set, cell-same, cell-other, same-ref}
 use Rattle.machine.proofs.Follow.{Ends, end-names}
 
@@ -148,7 +148,7 @@ module _ (l : Limits) (next : ℕ) (c : Copy) (ok : CopyOk l next c) (r s : Ref)
 
   -- a region is in order, and has grown from what it was
   region-after : (g : Region) → List·Memᴰ g (c .regions) → RegionOk l next (setRegion r (Bound s) g) × RegionGrown g (setRegion r (Bound s) g)
-  unfolding setRegion CopyGrown
+  unfolding setRegion
   region-after g x = by (eqb (g .stamp) (r .stamp)) refl
     where
       k : RegionOk l next g
@@ -158,7 +158,7 @@ module _ (l : Limits) (next : ℕ) (c : Copy) (ok : CopyOk l next c) (r s : Ref)
           let h : Region = if t then record { stamp = g .stamp; pages = map (setPage r (Bound s)) (g .pages) } else g in
           RegionOk l next h × RegionGrown g h
       by true e = own-after l next r s target g (open-pages g x (eqb-true (g .stamp) (r .stamp) e)) k
-      by false e = (k, copy-refl l next c ok g g x x refl)
+      by false e = (k, region-refl l next g k)
 
   -- what is read after: the variable is bound, and all else is as it was
   here : cellAt after r ≡ some (Bound s)
@@ -207,7 +207,7 @@ module _ (l : Limits) (next : ℕ) (c : Copy) (ok : CopyOk l next c) (r s : Ref)
       by (inl z) =
           let v : Bound s ≡ w = Option·some-injective (Bound s) w (sym here ∙ ap (cellAt after) (sym z) ∙ e) in
           subst (λ (x : Ref). CellNames after x w) (sym z) (subst (CellNames after r) v names-here)
-      by (inr n) = cell-names c after still was q w (ok .cells-name q w (sym (there q n) ∙ e))
+      by (inr n) = cells-kept l next c after (λ x i. still x) ok was q w (sym (there q n) ∙ e)
 
   order-after : Pairs (λ (g h : Region). g .stamp < h .stamp) (after .regions)
   unfolding setCell
@@ -222,7 +222,7 @@ module _ (l : Limits) (next : ℕ) (c : Copy) (ok : CopyOk l next c) (r s : Ref)
   bind-ok = record {
     registers = ok .registers;
     registers-in = ok .registers-in;
-    registers-name = each-imp (RegisterNames c) (RegisterNames after) (c .registers) (λ x m. register-names c after still x) (ok .registers-name);
+    registers-name = registers-kept l next c after (λ q i. still q) ok;
     regions = each-map (RegionOk l next) (setRegion r (Bound s)) (c .regions) (each-by (λ g. RegionOk l next (setRegion r (Bound s) g)) (c .regions) (λ g x. region-after g x .0));
     in-order = order-after;
     cells-name = names-after;

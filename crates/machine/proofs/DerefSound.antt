@@ -7,7 +7,7 @@ use mathlib.Core.Option.{Option, none, some}
 use Prim.Native.Nat.{ℕ, suc}
 use lib.Dec.{eqb}
 use Rattle.laws.specs.Base.{if_then_else_, Each}
-use Rattle.laws.proofs.Lists.{each-imp}
+use Rattle.laws.proofs.Lists.{each-at, each-imp}
 use Rattle.words.specs.declared.Ref.{Ref}
 use Rattle.words.specs.declared.Cell.{Cell}
 use Rattle.words.specs.declared.Cell.the-variants.{Unbound, Bound, Int, Head, Argument}
@@ -18,8 +18,8 @@ use Rattle.machine.specs.declared.Found.the-variants.{Dead, At}
 use Rattle.machine.specs.Copies.{Limits, Region, Copy, Machine, withCopies}
 use Rattle.machine.specs.Unify.{argumentsAt}
 use Rattle.machine.specs.Run.{refuse, done, setReg, termAt, seen, foundFrom, setTerms, apart, exec}
-use Rattle.machine.specs.Sound.{Sound, CopyOk, RegisterIn, RegisterNames, Names, CopyGrown}
-use Rattle.machine.proofs.Growth.{copy-refl}
+use Rattle.machine.specs.Sound.{Sound, CopyOk, RegionOk, RegisterIn, RegisterNames, Names}
+use Rattle.machine.proofs.Growth.{region-refl}
 use Rattle.machine.proofs.Onward.{Onward, onward-sound}
 use Rattle.machine.proofs.Registers.{register-set}
 use Rattle.machine.proofs.Follow.{GoodRef, dead-not-at, deref-good, arguments-good}
@@ -30,12 +30,11 @@ Kept l next c d = CopyOk l next d × (d .regions ≡ c .regions)
 
 -- such a copy goes on from the present one
 pub registers-onward : (m : Machine) (t : ℕ) (c : Copy) → Kept (m .limits) (m .next) (m .present) c → Onward m t c
-unfolding CopyGrown
 registers-onward m t c k =
     let stays : (g : Region) → List·Memᴰ g (c .regions) → List·Memᴰ g (m .present .regions) = λ g x. rw (k .1) at x in
     record {
       ok = k .0;
-      from = λ g x. (g, stays g x, refl, copy-refl (m .limits) (m .next) c (k .0) g g x x refl);
+      from = λ g x. (g, stays g x, refl, region-refl (m .limits) (m .next) g (each-at (RegionOk (m .limits) (m .next)) (c .regions) (k .0 .regions) g x));
       pages = λ g p x h. inl (g, stays g x, refl, h);
     }
 
