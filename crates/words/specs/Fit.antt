@@ -1,4 +1,4 @@
--- The values that a word's format has room for, by the widths of document 01, "Words". What fits is packed without loss.
+-- The values that a word's format has room for, by the widths of document 01, "Words", "Steps" and "Answer words". What fits is packed without loss.
 -- k is the width of an address, and k - 4 the width of a page's number.
 use mathlib.Core.Option.{Option, none, some}
 use Prim.Native.Nat.{ℕ, _-_, _^_, _≤_, _<_}
@@ -11,6 +11,9 @@ use Rattle.words.specs.declared.Word.{Word}
 use Rattle.words.specs.declared.Word.the-variants as Word
 use Rattle.words.specs.declared.Register.{Register}
 use Rattle.words.specs.declared.Register.the-variants.{Empty, Region, Term}
+use Rattle.words.specs.declared.Step.{Step}
+use Rattle.words.specs.declared.Step.the-variants.{Refused, MakeRegion, KillRegion, MakeVar, Integer, Structure, Unify, Deref, Destruct, PushChoice, Cut, Backtrack}
+use Rattle.words.specs.declared.Answer.{Answer}
 use Rattle.words.specs.Integers.{IntIn}
 
 -- stamp 32, address k
@@ -63,3 +66,24 @@ unfoldable pub RegisterFits : ℕ → Register → Type 0
 RegisterFits k Empty = Unit {0}
 RegisterFits k (Region s) = s < 2 ^ 32
 RegisterFits k (Term r) = RefFits k r
+
+-- registers 5 bits each, functor 16, arity 4, budget 12; what is refused is no step
+unfoldable pub StepFits : Step → Type 0
+StepFits Refused = ⊥
+StepFits (MakeRegion d) = d < 2 ^ 5
+StepFits (KillRegion a) = a < 2 ^ 5
+StepFits (MakeVar d a) = (d < 2 ^ 5) × (a < 2 ^ 5)
+StepFits (Integer d a value) = (d < 2 ^ 5) × (a < 2 ^ 5) × IntIn value
+StepFits (Structure d a b f n) = (d < 2 ^ 5) × (a < 2 ^ 5) × (b < 2 ^ 5) × (f < 2 ^ 16) × (n < 2 ^ 4)
+StepFits (Unify a b budget) = (a < 2 ^ 5) × (b < 2 ^ 5) × (budget < 2 ^ 12)
+StepFits (Deref d a) = (d < 2 ^ 5) × (a < 2 ^ 5)
+StepFits (Destruct d a f n) = (d < 2 ^ 5) × (a < 2 ^ 5) × (f < 2 ^ 16) × (n < 2 ^ 4)
+StepFits PushChoice = Unit {0}
+StepFits Cut = Unit {0}
+StepFits Backtrack = Unit {0}
+
+pub record AnswerFits (a : Answer) : Type 0 where
+  pub status : a .status < 2 ^ 4
+  pub kind : a .kind < 2 ^ 4
+  pub pairs : a .pairs < 2 ^ 12
+  pub payload : a .payload < 2 ^ 32
