@@ -20,59 +20,8 @@ use Rattle.machine.specs.Copies.{Limits, Region, Copy, Machine, copies, 
 use Rattle.machine.specs.Run.{Outcome, refused, lastStamp, newRegion, cutTo, backTo, exec, answer, after, final}
 use Rattle.machine.specs.Image.{pageImage, pagesImage, heapImage}
 use Rattle.machine.specs.Strike.{Line, lines, Event, made, pushed, dropped, used, other, accepted, eventOf, event, Stretch, Fate, stands, ended, lost, fate, regionsIn, longer, onward, stretch, stretchAt, struck, Item, kept, moved, strikeFrom, strike, moveOn, replayed, replayAnswers, keptAnswers, stampsOf, stamps, usedBy, backtracksLeft}
+use Rattle.machine.proofs.Moves.{machineOf, Moves, moves}
 use Rattle.machine.specs.Demand3.{Struck, NothingLeft, Demand3}
-
--- ---- what each event does to the saved copies and the counter
-
-abbrev machineOf : Limits → Copy → List Copy → ℕ → Machine
-machineOf limits present saved next = record { limits = limits; present = present; saved = saved; next = next }
-
-abbrev Moves : Event → Machine → Outcome → Type 0
-Moves made m o = (o .machine .limits ≡ m .limits) × (o .machine .saved ≡ m .saved) × (o .machine .next ≡ suc (m .next)) × (o .answer .payload ≡ m .next)
-Moves pushed m o = o .machine ≡ machineOf (m .limits) (m .present) (m .present ∷ m .saved) (m .next)
-Moves dropped m o = (c : Copy) × (cs : List Copy) × (m .saved ≡ c ∷ cs) × (o .machine ≡ machineOf (m .limits) (m .present) cs (m .next))
-Moves used m o = (c : Copy) × (cs : List Copy) × (m .saved ≡ c ∷ cs) × (o .machine ≡ machineOf (m .limits) c cs (m .next))
-Moves other m o = (o .machine .limits ≡ m .limits) × (o .machine .saved ≡ m .saved) × (o .machine .next ≡ m .next)
-
-abbrev Moved : Machine → Step → Outcome → Type 0
-Moved m s o = Moves (eventOf s (o .answer .status)) m o
-
-moves-make : (m : Machine) (d : ℕ) (last full : Bool) (p : Option ℕ) → Moved m (MakeRegion d) (if last then refused m 7 else if full then refused m 6 else newRegion m d p)
-unfolding eventOf newRegion
-moves-make m d true full p = (refl, refl, refl)
-moves-make m d false true p = (refl, refl, refl)
-moves-make m d false false none = (refl, refl, refl)
-moves-make m d false false (some p) = (refl, refl, refl, refl)
-
-moves-push : (m : Machine) (full : Bool) → Moved m PushChoice (if full then refused m 8 else record { answer = plain 0; machine = machineOf (m .limits) (m .present) (m .present ∷ m .saved) (m .next) })
-unfolding eventOf
-moves-push m true = (refl, refl, refl)
-moves-push m false = refl
-
-moves-cut : (m : Machine) (cs : List Copy) → m .saved ≡ cs → Moved m Cut (cutTo m cs)
-unfolding eventOf cutTo
-moves-cut m [] e = (refl, refl, refl)
-moves-cut m (c ∷ cs) e = (c, cs, e, refl)
-
-moves-back : (m : Machine) (cs : List Copy) → m .saved ≡ cs → Moved m Backtrack (backTo m cs)
-unfolding eventOf backTo
-moves-back m [] e = (refl, refl, refl)
-moves-back m (c ∷ cs) e = (c, cs, e, refl)
-
-moves : (m : Machine) (s : Step) → Moved m s (exec m s)
-unfolding exec eventOf
-moves m Refused = (refl, refl, refl)
-moves m (MakeRegion d) = moves-make m d (eqb (m .next) lastStamp) (leb (m .limits .slots) (slots m)) (lowest (free m))
-moves m (KillRegion a) = (refl, refl, refl)
-moves m (MakeVar d a) = (refl, refl, refl)
-moves m (Integer d a v) = (refl, refl, refl)
-moves m (Structure d a b f n) = (refl, refl, refl)
-moves m (Unify a b k) = (refl, refl, refl)
-moves m (Deref d a) = (refl, refl, refl)
-moves m (Destruct d a f n) = (refl, refl, refl)
-moves m PushChoice = moves-push m (leb (m .limits .choices) (length (m .saved)))
-moves m Cut = moves-cut m (m .saved) refl
-moves m Backtrack = moves-back m (m .saved) refl
 
 -- ---- a stretch brings back the copy that its push saved
 

@@ -2,6 +2,7 @@ pub mod Opened
 pub mod Table
 pub mod Worked
 pub mod Refuse
+pub mod Moves
 pub mod Demand3
 pub mod Growth
 pub mod Shown
@@ -18,3 +19,4 @@ pub mod Follow
 pub mod Bind
 pub mod UnifySound
 pub mod DerefSound
+pub mod Kept
