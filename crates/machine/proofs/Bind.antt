@@ -207,7 +207,7 @@ module _ (l : Limits) (next : ℕ) (c : Copy) (ok : CopyOk l next c) (r s : Ref)
       by (inl z) =
           let v : Bound s ≡ w = Option·some-injective (Bound s) w (sym here ∙ ap (cellAt after) (sym z) ∙ e) in
           subst (λ (x : Ref). CellNames after x w) (sym z) (subst (CellNames after r) v names-here)
-      by (inr n) = cells-kept l next c after (λ x i. still x) ok was q w (sym (there q n) ∙ e)
+      by (inr n) = cells-kept l next c after (λ x i. still x) ok (λ x v y. was x v) q w (sym (there q n) ∙ e)
 
   order-after : Pairs (λ (g h : Region). g .stamp < h .stamp) (after .regions)
   unfolding setCell

@@ -27,7 +27,7 @@ use Rattle.machine.proofs.Growth.{one-region, region-refl}
 use Rattle.machine.proofs.Shown.{mem-live}
 use Rattle.machine.proofs.Onward.{Onward, Listed, onward-sound}
 use Rattle.machine.proofs.Cells.{region-found, cell-live}
-use Rattle.machine.proofs.Registers.{register-names, register-in, register-named, register-set}
+use Rattle.machine.proofs.Registers.{register-names, cell-names, register-in, register-named, register-set}
 use Rattle.machine.proofs.Free.{lowest-free, free-unlisted}
 use Rattle.machine.proofs.Put.{Added, TermOk, put-adds}
 
@@ -157,12 +157,7 @@ module _ (l : Limits) (next : ℕ) (c : Copy) (ok : CopyOk l next c) (g : Region
       k .1 ∙ sym (cell-kept r (k .0) (k .1)) ∙ e
 
   cell-names-kept : (r : Ref) (w : Cell) → CellNames c r w → CellNames after r w
-  unfolding CellNames
-  cell-names-kept r Unbound h = tt
-  cell-names-kept r (Bound s) h = (names-kept s (h .0), λ w e v. h .1 w (named-was s w (h .0) e) v)
-  cell-names-kept r (Int v) h = tt
-  cell-names-kept r (Head f n) h = tt
-  cell-names-kept r (Argument s) h = names-kept s h
+  cell-names-kept = cell-names c after names-kept (λ s v n e h. (v, named-was s v n e, h))
 
   grown-ok : Each (Anywhere c) ws → CopyOk l next after
   grown-ok names = record {

@@ -77,7 +77,7 @@ module _ (c : Copy) (t : ℕ) where
         registers-name = registers-kept l next c killed (λ r i. still-names r) k;
         regions = each-by (RegionOk l next) (keep other (c .regions)) (λ g m. each-at (RegionOk l next) (c .regions) (k .regions) g (kept-at other (c .regions) g m .0));
         in-order = pairs-keep (λ (g h : Region). g .stamp < h .stamp) other (c .regions) (k .in-order);
-        cells-name = λ r w e. cells-kept l next c killed (λ s i. still-names s) k (λ s v q h. (v, was-cell s v q, h)) r w (was-cell r w e);
+        cells-name = λ r w e. cells-kept l next c killed (λ s i. still-names s) k (λ s v n q h. (v, was-cell s v q, h)) r w (was-cell r w e);
       }
 
 killed-onward : (m : Machine) (t : ℕ) → Sound m → Onward m t (killed (m .present) t)

@@ -157,7 +157,7 @@ module _ (l : Limits) (s p : ℕ) (c : Copy) (k : CopyOk l s c) where
         regions = each-append (RegionOk l (suc s)) (c .regions) (fresh s p ∷ []) (j .regions) (fresh-ok l s p a b, tt);
         in-order = pairs-append (λ (g h : Region). g .stamp < h .stamp) (c .regions) (fresh s p ∷ []) (k .in-order) (tt, tt) older;
         cells-name = λ r w e.
-            cells-kept l s c (larger s p c) still k (λ q v f h. (v, sym (same-cell s p (c .regions) q) ∙ f, h)) r w (sym (same-cell s p (c .regions) r) ∙ e);
+            cells-kept l s c (larger s p c) still k (λ q v n f h. (v, sym (same-cell s p (c .regions) q) ∙ f, h)) r w (sym (same-cell s p (c .regions) r) ∙ e);
       }
     where
       older : (g h : Region) → List·Memᴰ g (c .regions) → List·Memᴰ h (fresh s p ∷ []) → g .stamp < h .stamp

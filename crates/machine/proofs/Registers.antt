@@ -18,9 +18,9 @@ use Rattle.machine.proofs.Cells.{cell-in}
 
 -- ---- from a copy c to a copy d, in which the references that are `Ok` still name what they have to
 
--- a variable of d was one in c
+-- a variable of d, at a reference that names what it has to in c, was one in c
 abbrev pub Were : Copy → Copy → Type 0
-Were c d = (r : Ref) (w : Cell) → cellAt d r ≡ some w → IsVariable w → (v : Cell) × (cellAt c r ≡ some v) × IsVariable v
+Were c d = (r : Ref) (w : Cell) → Names c r → cellAt d r ≡ some w → IsVariable w → (v : Cell) × (cellAt c r ≡ some v) × IsVariable v
 
 module _ (Ok : Ref → Type 0) (c d : Copy) (still : (r : Ref) → Ok r → Names c r → Names d r) where
   register-if : (x : Register) → ((r : Ref) → x ≡ Reg.Term r → Ok r) → RegisterNames c x → RegisterNames d x
@@ -32,7 +32,7 @@ module _ (Ok : Ref → Type 0) (c d : Copy) (still : (r : Ref) → Ok r → Name
   cell-if : Were c d → (r : Ref) (w : Cell) → ((s : Ref) → (w ≡ Bound s) ⊎ (w ≡ Argument s) → Ok s) → CellNames c r w → CellNames d r w
   unfolding CellNames
   cell-if was r Unbound i h = tt
-  cell-if was r (Bound s) i h = (still s (i s (inl refl)) (h .0), λ w e k. let v = was s w e k in h .1 (v .0) (v .1) (v .2))
+  cell-if was r (Bound s) i h = (still s (i s (inl refl)) (h .0), λ w e k. let v = was s w (h .0) e k in h .1 (v .0) (v .1) (v .2))
   cell-if was r (Int v) i h = tt
   cell-if was r (Head f n) i h = tt
   cell-if was r (Argument s) i h = still s (i s (inr refl)) h
@@ -86,5 +86,5 @@ register-set l next c d x k i n =
           (register-names c (setReg c d x) (λ r h. h) x n);
       regions = k .regions;
       in-order = k .in-order;
-      cells-name = cells-kept l next c (setReg c d x) (λ r m h. h) k (λ r w e h. (w, e, h));
+      cells-name = cells-kept l next c (setReg c d x) (λ r m h. h) k (λ r w n e h. (w, e, h));
     }
