@@ -1,2 +1,4 @@
 pub mod Base
 pub mod Search
+pub mod Pick
+pub mod Loops

@@ -1,1 +1,7 @@
-// Laws that know nothing of the machine: lists, tests, searches among copies. All of it stands in specs/ and proofs/.
+// Laws that know nothing of the machine: lists, tests, searches, and how code is proved. They stand in specs/ and proofs/.
+
+// Where a search ends.
+pub enum Sought {
+    At(usize),
+    Nowhere,
+}
