@@ -3,3 +3,4 @@ pub mod Integers
 pub mod Words
 pub mod Steps
 pub mod Answers
+pub mod Fit

@@ -45,14 +45,43 @@ pub enum Held {
 // A step, ops 1 to 11 in their order. d, a and b are registers.
 pub enum Step {
     Refused,
-    MakeRegion { d: u8 },
-    KillRegion { a: u8 },
-    MakeVar { d: u8, a: u8 },
-    Integer { d: u8, a: u8, value: i32 },
-    Structure { d: u8, a: u8, b: u8, functor: u16, arity: u8 },
-    Unify { a: u8, b: u8, budget: u16 },
-    Deref { d: u8, a: u8 },
-    Destruct { d: u8, a: u8, functor: u16, arity: u8 },
+    MakeRegion {
+        d: u8,
+    },
+    KillRegion {
+        a: u8,
+    },
+    MakeVar {
+        d: u8,
+        a: u8,
+    },
+    Integer {
+        d: u8,
+        a: u8,
+        value: i32,
+    },
+    Structure {
+        d: u8,
+        a: u8,
+        b: u8,
+        functor: u16,
+        arity: u8,
+    },
+    Unify {
+        a: u8,
+        b: u8,
+        budget: u16,
+    },
+    Deref {
+        d: u8,
+        a: u8,
+    },
+    Destruct {
+        d: u8,
+        a: u8,
+        functor: u16,
+        arity: u8,
+    },
     PushChoice,
     Cut,
     Backtrack,
