@@ -1,3 +1,9 @@
 pub mod Growth
 pub mod Shown
 pub mod Onward
+pub mod Fits
+pub mod Turning
+pub mod Spots
+pub mod Numbered
+pub mod Homes
+pub mod Stack
