@@ -7,3 +7,5 @@ pub mod Spots
 pub mod Numbered
 pub mod Homes
 pub mod Stack
+pub mod Heap
+pub mod View

@@ -86,8 +86,9 @@ home-lists {gs} {n} h =
 pub lists-home : (gs : List Region) (n : ℕ) (g : Region) → List·Memᴰ g gs → lists n g ≡ true → Home gs n
 lists-home gs n g m e = let r = some-lies n none (g .pages) e in record { region = g; among = m; next = r .0; page = r .1; lies = r .2 }
 
-abbrev wider : {gs : List Region} {n : ℕ} (g : Region) → Home gs n → Home (g ∷ gs) n
-wider g h = record { region = h .region; among = List·Memᴰ·tail (h .among); next = h .next; page = h .page; lies = h .lies }
+-- the same place in another list that has the region
+abbrev pub moved : {gs : List Region} {n : ℕ} (hs : List Region) (h : Home gs n) → List·Memᴰ (h .region) hs → Home hs n
+moved hs h m = record { region = h .region; among = m; next = h .next; page = h .page; lies = h .lies }
 
 -- the first place where page n stands in a list of pages, or nowhere
 pub data Chained (k n s : ℕ) (nx : Option ℕ) (ps : List Page) : Type 0 where
@@ -120,12 +121,12 @@ spot k (g ∷ gs) n = by (chain-of k n (g .stamp) none (g .pages)) (spot k gs n)
   where
     by : Chained k n (g .stamp) none (g .pages) → Spot k gs n → Spot k (g ∷ gs) n
     by (chained j p h i) s = held (record { region = g; among = List·Memᴰ·head refl; next = j; page = p; lies = h }) (rw i)
-    by (unchained f i) (held h e) = held (wider g h) (rw i e)
+    by (unchained f i) (held h e) = held (moved (g ∷ gs) h (List·Memᴰ·tail (h .among))) (rw i e)
     by (unchained f i) (free z e) = free (λ h. no h (List·Memᴰ·cases-cons (h .among))) (rw i e)
       where
         no : (h : Home (g ∷ gs) n) → (h .region ≡ g) ⊎ List·Memᴰ (h .region) gs → ⊥
         no h (inl q) = f (h .next) (h .page) (subst (λ (y : Region). Lies n none (y .pages) (h .next) (h .page)) q (h .lies))
-        no h (inr m) = z (record { region = h .region; among = m; next = h .next; page = h .page; lies = h .lies })
+        no h (inr m) = z (moved gs h m)
 
 -- ---- growth: a place in an older list of pages, and the same place in a newer one
 
