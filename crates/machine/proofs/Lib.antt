@@ -9,3 +9,4 @@ pub mod Homes
 pub mod Stack
 pub mod Heap
 pub mod View
+pub mod SameCopies

@@ -31,10 +31,12 @@ lies-number n nx [] j p h = absurd h
 lies-number n nx (q ∷ qs) j p (inl h) = ap (λ (x : Page). x .number) (sym (h .1)) ∙ h .0
 lies-number n nx (q ∷ qs) j p (inr h) = lies-number n (some (q .number)) qs j p h
 
--- no page of a list without repeats has the number of one that stands before the list
-pub once : (p : Page) (ps : List Page) → List·Nodup (map (λ (x : Page). x .number) (p ∷ ps)) → (n : ℕ) (nx j : Option ℕ) (q : Page) → Lies n nx ps j q → p .number ≡ n → ⊥
-once p ps d n nx j q h e =
-    nodup-cons .0 d .0 ∣ map-mem (λ (x : Page). x .number) ps q (p .number) (lies-mem n nx ps j q h) (e ∙ sym (lies-number n nx ps j q h)) ∣₁
+-- the first page of a list without repeats is not one of the others
+pub first-apart : (p : Page) (ps : List Page) → List·Nodup (map (λ (x : Page). x .number) (p ∷ ps)) → (q : Page) → List·Memᴰ q ps → p .number ≢ q .number
+first-apart p ps d q m e = nodup-cons .0 d .0 ∣ map-mem (λ (x : Page). x .number) ps q (p .number) m e ∣₁
+
+pub once : (p : Page) (ps : List Page) → List·Nodup (map (λ (x : Page). x .number) (p ∷ ps)) → (n : ℕ) (nx j : Option ℕ) (q : Page) → Lies n nx ps j q → p .number ≢ n
+once p ps d n nx j q h e = first-apart p ps d q (lies-mem n nx ps j q h) (e ∙ sym (lies-number n nx ps j q h))
 
 -- a page stands in a list once
 pub lies-once : (n : ℕ) (nx : Option ℕ) (ps : List Page) (i j : Option ℕ) (p q : Page) → List·Nodup (map (λ (x : Page). x .number) ps) →
