@@ -10,3 +10,5 @@ pub mod Stack
 pub mod Heap
 pub mod View
 pub mod SameCopies
+pub mod Rows
+pub mod Injective

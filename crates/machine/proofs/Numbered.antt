@@ -1,5 +1,5 @@
 -- Copies by their number: 1 is the oldest, which is the last of the list.
-use mathlib.Core.Path.{_≡_, refl}
+use mathlib.Core.Path.{_≡_, refl, sym, ap, _∙_}
 use mathlib.Core.Bool.{Bool, true, false}
 use mathlib.Core.List.{List, [], _∷_, List·Memᴰ, List·Memᴰ·head, List·Memᴰ·tail}
 use Prim.Native.Nat.{ℕ, suc, _≤_, _<_}
@@ -53,3 +53,14 @@ return-at (x ∷ xs) r a c b s h i k l =
         live (numbered xs a) s ≡ true → live (numbered xs c) s ≡ false → live (if t then x else numbered xs b) s ≡ false
     by true e ih = pairs-at (λ (mid old : Copy). (u : ℕ) → live old u ≡ true → live mid u ≡ false → live x u ≡ false) xs (r .0) a c h i (omega tests) s
     by false e ih = ih (omega tests)
+
+-- copies that are the same number by number are the same list
+pub numbered-same : (cs ds : List Copy) → length cs ≡ length ds → ((n : ℕ) → 0 < n → n ≤ length cs → numbered cs n ≡ numbered ds n) → cs ≡ ds
+numbered-same [] [] l e = refl
+numbered-same [] (d ∷ ds) l e = absurd (omega arith)
+numbered-same (c ∷ cs) [] l e = absurd (omega arith)
+numbered-same (c ∷ cs) (d ∷ ds) l e =
+    let k : length cs ≡ length ds = omega arith in
+    let p : c ≡ d = sym (newest-numbered c cs) ∙ e (suc (length cs)) (omega arith) (omega arith) ∙ ap (λ (n : ℕ). numbered (d ∷ ds) (suc n)) k ∙ newest-numbered d ds in
+    let q : cs ≡ ds = numbered-same cs ds k (λ n h i. sym (older-numbered c cs n i) ∙ e n h (omega arith) ∙ older-numbered d ds n (omega arith)) in
+    λ i. p i ∷ q i
