@@ -7,7 +7,7 @@ use lib.Dec.{leb}
 use borrow.Author.Tests.{le-leb, lt-leb}
 use Rattle.laws.proofs.Tests.{tests}
 use Rattle.layers.specs.Words.{old}
-use Rattle.layers.specs.Marks.{Mark, mark, blank, view}
+use Rattle.layers.specs.Marks.{Mark, blank, view}
 
 module _ (l : ℕ) (m : Mark) (c : ℕ) where
   pub view-before : c < m .born → view l m c ≡ 0

@@ -8,13 +8,13 @@ use native.Mathlib.Nat.{add-zero, add-suc}
 use lib.Dec.{leb, eqb}
 use borrow.Author.Tests.{ne-eqb}
 use Rattle.laws.specs.Base.{if_then_else_}
-use Rattle.laws.specs.Search.{oldest, newest}
+use Rattle.laws.specs.Search.{oldest}
 use Rattle.laws.proofs.Tests.{tests}
 use Rattle.laws.proofs.Search.{Oldest, never, since, Newest, none, until, oldest-spec, newest-spec}
 use Rattle.layers.specs.Words.{filled, turned, old}
-use Rattle.layers.specs.Marks.{Mark, mark, blank, view}
-use Rattle.layers.specs.Shows.{Fit, empty, plain, later, History, wordOf, holder, markOf, Shows, Becomes, Unbroken, Grows}
-use Rattle.layers.proofs.Words.{filled-is, filled-not, turned-filled, zero-not-turned, becomes-filled, becomes-trans, turned-stays}
+use Rattle.layers.specs.Marks.{mark, blank, view}
+use Rattle.layers.specs.Shows.{empty, plain, later, History, wordOf, holder, markOf, Shows, Becomes, Unbroken, Grows}
+use Rattle.layers.proofs.Words.{filled-is, filled-not, turned-filled, becomes-filled, becomes-trans, turned-stays}
 use Rattle.layers.proofs.Marks.{view-before, view-after, view-new, view-old, view-blank, Seen, before, after, new, past, seen}
 
 module _ (n : ℕ) (L F : History) (g : Grows n L F) where

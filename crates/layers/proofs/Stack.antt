@@ -1,7 +1,7 @@
 -- Every copy's word is read off the layers, so two sound stacks with the same layers are one.
-use mathlib.Core.Path.{_≡_, refl, sym, ap, _∙_}
+use mathlib.Core.Path.{_≡_, refl, sym, _∙_}
 use mathlib.Core.Bool.{Bool, true, false, true≢false}
-use Prim.Native.Nat.{ℕ, _*_, _/_, _%_, _≤_, _<_}
+use Prim.Native.Nat.{ℕ, _%_, _≤_, _<_}
 use native.Mathlib.Omega.{arith}
 use lib.Dec.{leb, eqb}
 use borrow.Author.Tests.{eq-eqb, eqb-true}
@@ -10,7 +10,7 @@ use Rattle.laws.specs.Search.{oldest, newest}
 use Rattle.laws.proofs.Tests.{tests}
 use Rattle.laws.proofs.Search.{Oldest, never, since, Newest, none, until, oldest-spec, newest-spec, oldest-same}
 use Rattle.layers.specs.Words.{filled, turned, linkAddress, nextAddress}
-use Rattle.layers.specs.Marks.{Mark, mark, view}
+use Rattle.layers.specs.Marks.{mark, view}
 use Rattle.layers.specs.Shows.{holder, markOf, Fit, empty, plain, later, Shows}
 use Rattle.layers.specs.Stack.{Stack, holderIn, markIn, Sound, Layers, goneOf, holderBy, layers, holderAt, linkTurn, markAt, viewAt, Same}
 use Rattle.layers.proofs.Shows.{grows-shows}

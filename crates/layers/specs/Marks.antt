@@ -1,5 +1,5 @@
 -- One address: its word and two marks, and what each copy shows of it. Copies are numbered 1, 2, .. from the oldest; 0 is 'never'.
-use mathlib.Core.Bool.{Bool, _&&_}
+use mathlib.Core.Bool.{_&&_}
 use Prim.Native.Nat.{ℕ}
 use lib.Dec.{leb}
 use Rattle.laws.specs.Base.{if_then_else_}

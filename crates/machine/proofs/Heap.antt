@@ -3,17 +3,17 @@ use mathlib.Core.Path.{_≡_, refl, sym, ap, _∙_, subst}
 use mathlib.Core.Bool.{Bool, true, false, not, true≢false}
 use mathlib.Core.Logic.{_≢_, _⊎_, inl, inr}
 use mathlib.Core.List.{List, [], _∷_, _++_, map, List·Memᴰ, List·Memᴰ·head, List·Memᴰ·tail, List·Memᴰ·cases-cons, List·Memᴰ·not-nil, List·Memᴰ·append-cases}
-use mathlib.Core.Option.{Option, none, some}
+use mathlib.Core.Option.{none}
 use Prim.Native.Nat.{ℕ, zero, suc, _+_, _-_, _*_, _/_, _%_, _≤_, _<_}
 use native.Mathlib.Omega.{arith}
 use lib.Dec.{leb, eqb}
 use lib.ListN.{length, getD, replicate, length-append, length-map, length-replicate, List·getD-append}
 use lib.Seq.{getD-append-add}
-use borrow.Author.Tests.{ne-eqb, eqb-true}
+use borrow.Author.Tests.{ne-eqb}
 use Rattle.laws.specs.Base.{if_then_else_, keep, from, Pairs}
 use Rattle.laws.specs.Search.{newest}
 use Rattle.laws.proofs.Tests.{tests}
-use Rattle.laws.proofs.Lists.{each-at, some-at, kept-at}
+use Rattle.laws.proofs.Lists.{each-at, kept-at}
 use Rattle.laws.proofs.Search.{newest-same, newest-le}
 use Rattle.words.specs.Words.{cellWord}
 use Rattle.words.proofs.Back.{link-filled}
@@ -21,7 +21,7 @@ use Rattle.layers.specs.Words.{filled, linkAddress}
 use Rattle.layers.specs.Shows.{holder, markOf}
 use Rattle.layers.specs.Stack.{markIn}
 use Rattle.layers.proofs.Words.{filled-yes, filled-no}
-use Rattle.machine.specs.Copies.{Limits, Page, Region, Copy, Machine, copies, live, stamped, shown}
+use Rattle.machine.specs.Copies.{Limits, Region, Copy, Machine, copies, live, shown}
 use Rattle.machine.specs.Sound.{Sound, RegionOk, PageOk, CopyGrown}
 use Rattle.machine.specs.Image.{pageWords, inChain, orElse, pageImage, pagesImage, heapImage}
 use Rattle.machine.specs.Tables.{numbered, wordAt, wordIn}

@@ -1,10 +1,10 @@
 -- The words of a sound machine's copies: what stands on the pages of their regions, from one copy to the next.
 use mathlib.Core.Path.{_≡_, refl, sym, ap, _∙_, subst}
-use mathlib.Core.Bool.{Bool, true, false, true≢false}
+use mathlib.Core.Bool.{true, false}
 use mathlib.Core.Logic.{_≢_, _⊎_, inl, inr}
-use mathlib.Core.List.{List, [], List·Memᴰ, List·Memᴰ·head}
-use mathlib.Core.Option.{Option, none, some, Option·none-ne-some, Option·some-injective}
-use Prim.Native.Nat.{ℕ, _+_, _-_, _*_, _/_, _%_, _^_, _≤_, _<_}
+use mathlib.Core.List.{List, [], List·Memᴰ}
+use mathlib.Core.Option.{Option, none, some, Option·none-ne-some}
+use Prim.Native.Nat.{ℕ, _*_, _/_, _%_, _^_, _<_}
 use native.Mathlib.Omega.{arith}
 use lib.ListN.{getD, replicate}
 use Rattle.laws.specs.Base.{Each}
@@ -13,18 +13,17 @@ use Rattle.words.specs.Words.{linkWord}
 use Rattle.words.specs.Fields.{tagOf}
 use Rattle.words.specs.Fit.{CellFits, NextFits}
 use Rattle.words.proofs.Back.{link-filled}
-use Rattle.layers.specs.Words.{filled, turned, linkAddress}
+use Rattle.layers.specs.Words.{turned, linkAddress}
 use Rattle.layers.specs.Shows.{Becomes}
-use Rattle.layers.proofs.Words.{filled-yes, filled-no, zero-not-turned}
 use Rattle.machine.specs.Copies.{Page, Region, Copy, Machine, copies, live}
-use Rattle.machine.specs.Sound.{Sound, LimitsOk, CopyOk, RegionOk, PageOk, PageIn, CellIn, CopyGrown, PagesApart}
+use Rattle.machine.specs.Sound.{Sound, CopyOk, RegionOk, PageOk, PageIn, CellIn, CopyGrown, PagesApart}
 use Rattle.machine.specs.Image.{pageWords, pageImage}
 use Rattle.machine.specs.Tables.{wordAt}
 use Rattle.machine.proofs.Growth.{one-region}
 use Rattle.machine.proofs.Shown.{mem-live}
 use Rattle.machine.proofs.Fits.{page-fits, stamp-fits, cell-fits}
 use Rattle.machine.proofs.Turning.{zeros-after, link-plain, link-turned, page-becomes, page-no-link}
-use Rattle.machine.proofs.Spots.{Lies, lies-mem, lies-number, lies-once, lies-next, Home, home-lists, Spot, free, held, spot, Carried, carry, carry-back}
+use Rattle.machine.proofs.Spots.{Lies, lies-mem, lies-number, lies-once, lies-next, Home, home-lists, Spot, free, held, spot, Carried, carry}
 
 -- ---- the words of a page
 

@@ -11,4 +11,6 @@ pub mod Heap
 pub mod View
 pub mod SameCopies
 pub mod Rows
+pub mod Lengths
 pub mod Injective
+pub mod Once

@@ -1,23 +1,20 @@
--- The tables, word by word: the next stamp, the count of copies, a row of 32 register words for each copy, zeros. And the lengths of all that is lent.
-use mathlib.Core.Path.{_≡_, refl, sym, ap, _∙_}
+-- The tables, word by word: the next stamp, the count of copies, a row of 32 register words for each copy, zeros.
+use mathlib.Core.Path.{_≡_, refl, ap, _∙_}
 use mathlib.Core.Bool.{Bool, true, false}
 use mathlib.Core.List.{List, [], _∷_, _++_}
-use Prim.Native.Nat.{ℕ, suc, _+_, _-_, _*_, _^_, _≤_, _<_}
+use Prim.Native.Nat.{ℕ, suc, _+_, _-_, _*_, _≤_, _<_}
 use native.Mathlib.Omega.{arith}
 use lib.Dec.{eqb}
 use lib.ListN.{length, take, drop, replicate, length-append, length-map, length-replicate, length-drop}
 use lib.Seq.{take-all, take-append-le, drop-append-le, drop-at}
-use borrow.Author.Tests.{eqb-true}
 use Rattle.laws.specs.Base.{if_then_else_, Each}
 use Rattle.laws.proofs.Tests.{tests}
 use Rattle.laws.proofs.Lists.{each-imp}
-use Rattle.laws.proofs.Search.{length-tab}
 use Rattle.words.specs.Words.{registerWord}
-use Rattle.machine.specs.Copies.{Limits, Copy, Machine, copies}
-use Rattle.machine.specs.Sound.{Sound, SoundSession, CopyOk}
-use Rattle.machine.specs.Tables.{row, rows, tablesImage, numbered, bornMark, turnedMark, image}
+use Rattle.machine.specs.Copies.{Copy, Machine, copies}
+use Rattle.machine.specs.Sound.{Sound, CopyOk}
+use Rattle.machine.specs.Tables.{row, rows, tablesImage, numbered}
 use Rattle.machine.proofs.Homes.{width}
-use Rattle.machine.proofs.Heap.{heap-length}
 
 abbrev Full : Copy → Type 0
 Full c = length (c .registers) ≡ 32
@@ -66,11 +63,3 @@ module _ (m : Machine) (s : Sound m) where
   tables-length =
       omega (arith, s .choices, length-append (rows (width m) (copies m)) (replicate ((m .limits .choices - length (m .saved)) * 32) 0), rows-length (width m) (copies m) full,
       length-replicate {A = ℕ} ((m .limits .choices - length (m .saved)) * 32) 0)
-
-pub born-length : (m : Machine) → length (image m .born) ≡ 2 ^ (width m)
-unfolding image
-born-length m = length-tab (2 ^ (width m)) (bornMark m)
-
-pub turned-length : (m : Machine) → length (image m .turned) ≡ 2 ^ (width m)
-unfolding image
-turned-length m = length-tab (2 ^ (width m)) (turnedMark m)

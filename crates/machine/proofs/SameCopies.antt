@@ -3,7 +3,7 @@ use mathlib.Core.Path.{_≡_, refl, sym, ap, _∙_, subst}
 use mathlib.Core.Logic.{_≢_, _⊎_, inl, inr}
 use mathlib.Core.List.{List, [], _∷_, map, List·Memᴰ, List·Memᴰ·head, List·Memᴰ·tail, List·Memᴰ·cases-cons, List·Memᴰ·not-nil, List·Nodup, nodup-cons}
 use mathlib.Core.Option.{Option, none, some, Option·none-ne-some, Option·some-injective}
-use Prim.Native.Nat.{ℕ, zero, suc, _+_, _-_, _*_, _/_, _%_, _^_, _≤_, _<_}
+use Prim.Native.Nat.{ℕ, suc, _+_, _-_, _*_, _/_, _%_, _^_, _≤_, _<_}
 use native.Mathlib.Omega.{arith}
 use lib.ListN.{length, getD}
 use Rattle.laws.specs.Base.{Each, Pairs}
@@ -18,7 +18,7 @@ use Rattle.machine.specs.Image.{pageWords, pageImage}
 use Rattle.machine.specs.Tables.{wordAt}
 use Rattle.machine.proofs.Growth.{one-region}
 use Rattle.machine.proofs.Turning.{zeros-after}
-use Rattle.machine.proofs.Spots.{Lies, lies-mem, lies-number, first-apart, once, Home}
+use Rattle.machine.proofs.Spots.{Lies, lies-number, first-apart, once, Home}
 use Rattle.machine.proofs.Homes.{width, wordOf, holds, copy-ok, region-ok, page-ok, page-in, stamp-fit, cells-fit, next-fit, at-home, home-filled}
 
 -- ---- the sixteen words of a page say which page it is

@@ -20,14 +20,14 @@ use Rattle.layers.specs.Stack as Layers
 use Rattle.layers.proofs.Words.{filled-yes, filled-no, filled-not, zero-not-turned, turned-filled}
 use Rattle.machine.specs.Copies.{Region, Copy, Machine, copies, live}
 use Rattle.machine.specs.Sound.{Sound, CopyGrown, PagesApart}
-use Rattle.machine.specs.Tables.{wordAt, numbered, wordIn}
+use Rattle.machine.specs.Tables.{numbered, wordIn}
 use Rattle.machine.proofs.Growth.{copy-refl}
 use Rattle.machine.proofs.Shown.{mem-live}
 use Rattle.machine.proofs.Fits.{page-width}
 use Rattle.machine.proofs.Turning.{link-names}
 use Rattle.machine.proofs.Spots.{Home, home-lists, Spot, free, held, spot, carry, carry-back}
 use Rattle.machine.proofs.Numbered.{numbered-in, pairs-at, return-at}
-use Rattle.machine.proofs.Homes.{width, wordOf, free-link, after, holds, within, copy-ok, region-ok, one-home, link-home, home-filled, link-last, link-joined, stamp-fit, next-fit, same-stamp, carried, becomes}
+use Rattle.machine.proofs.Homes.{width, wordOf, free-link, after, holds, within, copy-ok, region-ok, one-home, link-home, home-filled, link-last, link-joined, next-fit, same-stamp, carried, becomes}
 
 module _ (m : Machine) (s : Sound m) where
   -- the link of page n in a copy

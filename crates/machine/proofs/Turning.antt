@@ -1,21 +1,21 @@
 -- The words of a page as the layers read them: which have turned, what they were before, and how a page that grows becomes another.
 use mathlib.Core.Path.{_≡_, refl, sym, ap, _∙_}
-use mathlib.Core.Bool.{Bool, true, false}
+use mathlib.Core.Bool.{true, false}
 use mathlib.Core.Logic.{_≢_, _⊎_, inl, inr}
 use mathlib.Core.List.{List, [], _∷_, _++_, map}
 use mathlib.Core.Option.{Option, none, some}
-use Prim.Native.Nat.{ℕ, zero, suc, _+_, _-_, _*_, _/_, _%_, _^_, _≤_, _<_}
+use Prim.Native.Nat.{ℕ, zero, suc, _+_, _-_, _*_, _%_, _^_, _≤_, _<_}
 use native.Mathlib.Omega.{arith}
 use lib.Dec.{eqb}
 use lib.ListN.{length, getD, replicate}
-use borrow.Author.Tests.{eq-eqb, ne-eqb}
+use borrow.Author.Tests.{ne-eqb}
 use Rattle.laws.specs.Base.{Each}
 use Rattle.words.specs.declared.Ref.{Ref}
 use Rattle.words.specs.declared.Cell.{Cell}
 use Rattle.words.specs.declared.Cell.the-variants.{Unbound, Bound, Int, Head, Argument}
-use Rattle.words.specs.Fields.{bits, tagged, tagOf}
+use Rattle.words.specs.Fields.{tagged, tagOf}
 use Rattle.words.specs.Words.{cellWord, linkWord, stampOf}
-use Rattle.words.specs.Fit.{RefFits, CellFits, cellTag, NextFits, hasNext, nextPage}
+use Rattle.words.specs.Fit.{CellFits, cellTag, NextFits, hasNext, nextPage}
 use Rattle.words.proofs.Back.{link-tag, link-below, link-stamp, link-next, cell-tag}
 use Rattle.layers.specs.Words.{turned, old, nextAddress}
 use Rattle.layers.specs.Shows.{Becomes}

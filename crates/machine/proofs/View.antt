@@ -14,12 +14,11 @@ use Rattle.laws.proofs.Search.{oldest-same, newest-le, getD-tab}
 use Rattle.words.specs.Fields.{tagOf}
 use Rattle.layers.specs.Words.{filled, turned, linkAddress}
 use Rattle.layers.specs.Shows.{holder, markOf}
-use Rattle.layers.specs.Stack.{markIn, goneOf, layers, Same}
+use Rattle.layers.specs.Stack.{goneOf, layers, Same}
 use Rattle.layers.specs.Stack as Layers
 use Rattle.layers.proofs.Stack.{injective}
 use Rattle.machine.specs.Copies.{Limits, Machine, copies}
 use Rattle.machine.specs.Sound.{Sound, PageIn}
-use Rattle.machine.specs.Image.{heapImage}
 use Rattle.machine.specs.Tables.{numbered, wordIn, bornMark, cellMark, goneMark, linkMark, turnedMark, Lent, image}
 use Rattle.machine.proofs.Turning.{no-link-turned}
 use Rattle.machine.proofs.Spots.{Spot, free, held, spot}
