@@ -1,4 +1,4 @@
--- Every copy's word is read off the layers, so two sound stacks with the same layers are one.
+-- Every copy's word is read off the layers.
 use mathlib.Core.Path.{_≡_, refl, sym, _∙_}
 use mathlib.Core.Bool.{Bool, true, false, true≢false}
 use Prim.Native.Nat.{ℕ, _%_, _≤_, _<_}
@@ -30,7 +30,7 @@ holder-le p n = go (oldest-spec p n) (newest-spec p n)
         by false e = absurd (true≢false (sym r ∙ f l i (omega tests)))
 
 -- the mark in a page's link says which copy is the newest that holds it
-pub holder-back : (n lo l : ℕ) → 0 < n → (lo ≡ 0 → l ≡ 0) → lo ≤ l → holderBy n lo (goneOf n l) ≡ l
+holder-back : (n lo l : ℕ) → 0 < n → (lo ≡ 0 → l ≡ 0) → lo ≤ l → holderBy n lo (goneOf n l) ≡ l
 unfolding holderBy goneOf
 holder-back n lo l hn h k = go (eqb l n) refl
   where
@@ -90,7 +90,7 @@ module _ {k size n : ℕ} {F : Stack} (s : Sound k size n F) where
   view-at a h c p q = rw (holder-at a, mark-at a h) (shows-in a h .shown c p q)
 
 -- the view of an address needs the layers below the size only
-view-same : (k size n : ℕ) (s t : Layers) → Same size s t → (a : ℕ) → a < size → (a % 16 ≡ 0 → turned (s .heap a) ≡ true → nextAddress k (s .heap a) < size) → (c : ℕ) →
+pub view-same : (k size n : ℕ) (s t : Layers) → Same size s t → (a : ℕ) → a < size → (a % 16 ≡ 0 → turned (s .heap a) ≡ true → nextAddress k (s .heap a) < size) → (c : ℕ) →
     viewAt k n s a c ≡ viewAt k n t a c
 unfolding viewAt
 view-same k size n s t e a h next c = λ i. view (holderBy n (e .born (linkAddress a) low i) (e .turns (linkAddress a) low i)) (mark (e .heap a h i) (e .born a h i) (turn (eqb (a % 16) 0) refl i)) c
@@ -105,10 +105,3 @@ view-same k size n s t e a h next c = λ i. view (holderBy n (e .born (linkAddre
         by : (b : Bool) → turned (s .heap a) ≡ b → (if b then s .born (nextAddress k (s .heap a)) else 0) ≡ (if b then t .born (nextAddress k (s .heap a)) else 0)
         by true r = e .born (nextAddress k (s .heap a)) (next (eqb-true (a % 16) 0 q) r)
         by false r = refl
-
--- so two sound stacks with the same layers are one
-pub injective : {k size n : ℕ} {F G : Stack} → Sound k size n F → Sound k size n G → Same size (layers n F) (layers n G) →
-    (a : ℕ) → a < size → (c : ℕ) → 0 < c → c ≤ n → F a c ≡ G a c
-unfolding layers
-injective {k} {size} {n} {F} {G} s t e a h c p q =
-    view-at s a h c p q ∙ view-same k size n (layers n F) (layers n G) e a h (λ z r. s .chained a h z r .0) c ∙ sym (view-at t a h c p q)

@@ -35,7 +35,7 @@ pub turned-filled : (w : ℕ) → turned w ≡ true → w ≢ 0
 turned-filled w h e = true≢false (sym h ∙ ap turned e ∙ zero-not-turned)
 
 -- what was there before a word turned has not turned
-pub old-not-turned : (w : ℕ) → turned (old w) ≡ false
+old-not-turned : (w : ℕ) → turned (old w) ≡ false
 unfolding turned old
 old-not-turned w = go (eqb (tagOf w) 6) refl
   where

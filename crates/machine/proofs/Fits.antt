@@ -26,7 +26,7 @@ module _ (l : Limits) (ok : LimitsOk l) where
     pub stamp-fits : (s : ℕ) → StampIn next s → s < 2 ^ 32
     stamp-fits s h = omega arith
 
-    pub ref-fits : (r : Ref) → RefIn l next r → RefFits (l .address) r
+    ref-fits : (r : Ref) → RefIn l next r → RefFits (l .address) r
     ref-fits r h = record { stamp = stamp-fits (r .stamp) (h .stamp); address = omega (arith, h .page, ok .named) }
 
     pub cell-fits : (c : Cell) → CellIn l next c → CellFits (l .address) c

@@ -1,6 +1,6 @@
 -- Where a page stands in a copy: in which region, which page joined after it, and what it holds; and how that grows from copy to copy.
 use mathlib.Core.Path.{_≡_, refl, sym, ap, _∙_, subst}
-use mathlib.Core.Bool.{Bool, true, false, _||_, true≢false}
+use mathlib.Core.Bool.{Bool, true, false}
 use mathlib.Core.Logic.{_≢_, _⊎_, inl, inr}
 use mathlib.Core.List.{List, [], _∷_, _++_, map, List·Memᴰ, List·Memᴰ·head, List·Memᴰ·tail, List·Memᴰ·cases-cons, List·Memᴰ·not-nil, List·Nodup, nodup-cons}
 use mathlib.Core.Option.{Option, none, some, Option·none-ne-some, Option·some-injective}
@@ -8,7 +8,7 @@ use Prim.Native.Nat.{ℕ}
 use lib.Dec.{eqb}
 use lib.ListN.{replicate}
 use borrow.Author.Tests.{eq-eqb, eqb-true, eqb-false}
-use Rattle.laws.specs.Base.{some-of, Each}
+use Rattle.laws.specs.Base.{Each}
 use Rattle.laws.proofs.Lists.{some-yes, some-at, map-mem, mem-right}
 use Rattle.machine.specs.Copies.{Page, Region, Copy, lists, live, stamped}
 use Rattle.machine.specs.Sound.{Grown, SamePages, TopGrown, RegionGrown, CopyGrown}
@@ -59,17 +59,6 @@ lies-next n nx (x ∷ xs) q p (inr h) = by (lies-next n (some (x .number)) xs q 
     by (inl e) = inr (nx, x, inl (Option·some-injective (x .number) q e, refl, refl))
     by (inr r) = inr (r .0, r .1, inr (r .2))
 
--- a region that lists a page holds it somewhere
-some-lies : (n : ℕ) (nx : Option ℕ) (ps : List Page) → some-of (λ (q : Page). eqb (q .number) n) ps ≡ true → (j : Option ℕ) × (p : Page) × Lies n nx ps j p
-unfolding Lies
-some-lies n nx [] e = absurd (true≢false (sym e))
-some-lies n nx (q ∷ qs) e = by (eqb (q .number) n) refl e (λ k. some-lies n (some (q .number)) qs k)
-  where
-    by : (t : Bool) → eqb (q .number) n ≡ t → (t || some-of (λ (q : Page). eqb (q .number) n) qs) ≡ true →
-        (some-of (λ (q : Page). eqb (q .number) n) qs ≡ true → (j : Option ℕ) × (p : Page) × Lies n (some (q .number)) qs j p) → (j : Option ℕ) × (p : Page) × Lies n nx (q ∷ qs) j p
-    by true a b ih = (nx, q, inl (eqb-true (q .number) n a, refl, refl))
-    by false a b ih = let r = ih b in (r .0, r .1, inr (r .2))
-
 -- ---- page n in a list of regions
 
 -- the region that lists it, the page that joined after it, and what stands there
@@ -84,9 +73,6 @@ pub home-lists : {gs : List Region} {n : ℕ} (h : Home gs n) → lists n (h .re
 home-lists {gs} {n} h =
     some-yes (λ (q : Page). eqb (q .number) n) (h .region .pages) (h .page) (lies-mem n none (h .region .pages) (h .next) (h .page) (h .lies))
     (eq-eqb (h .page .number) n (lies-number n none (h .region .pages) (h .next) (h .page) (h .lies)))
-
-pub lists-home : (gs : List Region) (n : ℕ) (g : Region) → List·Memᴰ g gs → lists n g ≡ true → Home gs n
-lists-home gs n g m e = let r = some-lies n none (g .pages) e in record { region = g; among = m; next = r .0; page = r .1; lies = r .2 }
 
 -- the same place in another list that has the region
 abbrev pub moved : {gs : List Region} {n : ℕ} (hs : List Region) (h : Home gs n) → List·Memᴰ (h .region) hs → Home hs n

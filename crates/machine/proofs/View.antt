@@ -1,11 +1,11 @@
 -- The words and marks that a machine lends are the layers of its copies, so they say each word of each copy.
-use mathlib.Core.Path.{_≡_, refl, sym, ap, _∙_, subst}
+use mathlib.Core.Path.{_≡_, refl, sym, ap, _∙_}
 use mathlib.Core.Bool.{Bool, true, false}
 use mathlib.Core.Logic.{_≢_}
-use Prim.Native.Nat.{ℕ, suc, _+_, _-_, _*_, _/_, _%_, _^_, _≤_, _<_}
+use Prim.Native.Nat.{ℕ, _+_, _-_, _*_, _/_, _%_, _^_, _≤_, _<_}
 use native.Mathlib.Omega.{arith}
 use lib.Dec.{leb, eqb}
-use lib.ListN.{length, getD}
+use lib.ListN.{length, getD, List·getD-eq-default}
 use borrow.Author.Tests.{eqb-true}
 use Rattle.laws.specs.Base.{if_then_else_}
 use Rattle.laws.specs.Search.{oldest, newest}
@@ -14,18 +14,26 @@ use Rattle.laws.proofs.Search.{oldest-same, newest-le, getD-tab}
 use Rattle.words.specs.Fields.{tagOf}
 use Rattle.layers.specs.Words.{filled, turned, linkAddress}
 use Rattle.layers.specs.Shows.{holder, markOf}
-use Rattle.layers.specs.Stack.{goneOf, layers, Same}
-use Rattle.layers.specs.Stack as Layers
-use Rattle.layers.proofs.Stack.{injective}
+use Rattle.layers.specs.Stack.{goneOf, Layers, layers, Same, viewAt}
+use Rattle.layers.proofs.Stack.{view-at, view-same}
 use Rattle.machine.specs.Copies.{Limits, Machine, copies}
 use Rattle.machine.specs.Sound.{Sound, PageIn}
+use Rattle.machine.specs.Image.{heapImage}
 use Rattle.machine.specs.Tables.{numbered, wordIn, bornMark, cellMark, goneMark, linkMark, turnedMark, Lent, image}
 use Rattle.machine.proofs.Turning.{no-link-turned}
 use Rattle.machine.proofs.Spots.{Spot, free, held, spot}
 use Rattle.machine.proofs.Numbered.{numbered-in}
 use Rattle.machine.proofs.Homes.{width, free-word, page-in, cell-no-link}
 use Rattle.machine.proofs.Stack.{sound-stack}
-use Rattle.machine.proofs.Heap.{heap-at}
+use Rattle.machine.proofs.Heap.{heap-length, heap-at}
+
+-- what is lent, by address: the heap has the machine's pages only
+unfoldable pub lentLayers : Limits → Lent → Layers
+lentLayers l x = record {
+  heap = λ a. if leb (l .first * 16) a then getD (x .heap) (a - l .first * 16) 0 else 0;
+  born = λ a. getD (x .born) a 0;
+  turns = λ a. getD (x .turned) a 0;
+}
 
 module _ (m : Machine) (s : Sound m) where
   abbrev count : ℕ
@@ -69,52 +77,36 @@ module _ (m : Machine) (s : Sound m) where
       by true e = refl
       by false e = zero-in l (omega tests) (newest-le (λ c. filled (wordIn m (linkAddress a) c)) count) (spot (width m) (numbered (copies m) l .regions) (a / 16))
 
--- ---- two sound machines of the same limits that lend the same, and have as many copies
+  -- ---- the lent words and marks are the layers
 
-module _ (m w : Machine) (s : Sound m) (t : Sound w) (limits : m .limits ≡ w .limits) (lent : image m ≡ image w) (copied : length (copies m) ≡ length (copies w)) where
-  size-same : 2 ^ (width m) ≡ 2 ^ (width w)
-  size-same = ap (λ (l : Limits). 2 ^ (l .address)) limits
-
-  same-born : (a : ℕ) → a < 2 ^ (width m) → bornMark m a ≡ bornMark w a
-  unfolding image
-  same-born a h = sym (getD-tab (2 ^ (width m)) (bornMark m) a h) ∙ ap (λ (l : Lent). getD (l .born) a 0) lent ∙ getD-tab (2 ^ (width w)) (bornMark w) a (omega (arith, size-same))
-
-  same-turned : (a : ℕ) → a < 2 ^ (width m) → turnedMark m a ≡ turnedMark w a
-  unfolding image
-  same-turned a h = sym (getD-tab (2 ^ (width m)) (turnedMark m) a h) ∙ ap (λ (l : Lent). getD (l .turned) a 0) lent ∙ getD-tab (2 ^ (width w)) (turnedMark w) a (omega (arith, size-same))
-
-  same-heap : (a : ℕ) → layers (count m s) (wordIn m) .heap a ≡ layers (count w t) (wordIn w) .heap a
-  unfolding image layers
-  same-heap a = by (leb (m .limits .first) (a / 16)) (leb (suc (a / 16)) (m .limits .first + m .limits .pages)) refl refl
+  same-heap : (a : ℕ) → layers count (wordIn m) .heap a ≡ lentLayers (m .limits) (image m) .heap a
+  unfolding image layers lentLayers
+  same-heap a = by (leb (m .limits .first * 16) a) (leb ((m .limits .first + m .limits .pages) * 16) a) refl refl
     where
-      first : m .limits .first ≡ w .limits .first
-      first = ap (λ (l : Limits). l .first) limits
+      by : (u v : Bool) → leb (m .limits .first * 16) a ≡ u → leb ((m .limits .first + m .limits .pages) * 16) a ≡ v →
+          layers count (wordIn m) .heap a ≡ (if u then getD (heapImage m) (a - m .limits .first * 16) 0 else 0)
+      by false v d e = outside a (λ i. omega tests)
+      by true true d e = outside a (λ i. omega tests) ∙ sym (List·getD-eq-default (heapImage m) 0 (omega (tests, heap-length m s)))
+      by true false d e = sym (heap-at m s a (omega tests) (omega tests))
 
-      pages : m .limits .pages ≡ w .limits .pages
-      pages = ap (λ (l : Limits). l .pages) limits
-
-      out : (PageIn (m .limits) (a / 16) → ⊥) → layers (count m s) (wordIn m) .heap a ≡ layers (count w t) (wordIn w) .heap a
-      out z = outside m s a z ∙ sym (outside w t a (λ i. z (omega (arith, first, pages))))
-
-      by : (u v : Bool) → leb (m .limits .first) (a / 16) ≡ u → leb (suc (a / 16)) (m .limits .first + m .limits .pages) ≡ v →
-          layers (count m s) (wordIn m) .heap a ≡ layers (count w t) (wordIn w) .heap a
-      by true true d e =
-          sym (heap-at m s a (omega tests) (omega tests)) ∙ (λ i. getD (lent i .heap) (a - first i * 16) 0)
-          ∙ heap-at w t a (omega (tests, first)) (omega (tests, first, pages))
-      by false v d e = out (λ i. omega tests)
-      by true false d e = out (λ i. omega tests)
-
-  same-layers : Same (2 ^ (width m)) (layers (count m s) (wordIn m)) (layers (count w t) (wordIn w))
-  same-layers = record {
+  lent-layers : Same (2 ^ (width m)) (layers count (wordIn m)) (lentLayers (m .limits) (image m))
+  unfolding image lentLayers
+  lent-layers = record {
     heap = λ a h. same-heap a;
-    born = λ a h. sym (born-is m s a) ∙ same-born a h ∙ born-is w t a;
-    turns = λ a h. sym (turned-is m s a) ∙ same-turned a h ∙ turned-is w t a;
+    born = λ a h. sym (born-is a) ∙ sym (getD-tab (2 ^ (width m)) (bornMark m) a h);
+    turns = λ a h. sym (turned-is a) ∙ sym (getD-tab (2 ^ (width m)) (turnedMark m) a h);
   }
 
-  -- EACH WORD OF EACH COPY IS THE SAME
-  pub same-words : (a : ℕ) → a < 2 ^ (width m) → (c : ℕ) → 0 < c → c ≤ length (copies m) → wordIn m a c ≡ wordIn w a c
-  same-words a h c x y =
-      injective (sound-stack m s)
-      (subst (λ (l : Limits). Layers.Sound (l .address) (2 ^ (l .address)) (length (copies m)) (wordIn w)) (sym limits)
-      (subst (λ (n : ℕ). Layers.Sound (width w) (2 ^ (width w)) n (wordIn w)) (sym copied) (sound-stack w t)))
-      (subst (λ (n : ℕ). Same (2 ^ (width m)) (layers (length (copies m)) (wordIn m)) (layers n (wordIn w))) (sym copied) same-layers) a h c x y
+  -- EACH WORD OF EACH COPY IS READ OFF WHAT IS LENT
+  pub word-view : (a : ℕ) → a < 2 ^ (width m) → (c : ℕ) → 0 < c → c ≤ count → wordIn m a c ≡ viewAt (width m) count (lentLayers (m .limits) (image m)) a c
+  unfolding layers
+  word-view a h c x y =
+      view-at (sound-stack m s) a h c x y
+      ∙ view-same (width m) (2 ^ (width m)) count (layers count (wordIn m)) (lentLayers (m .limits) (image m)) lent-layers a h (λ z r. sound-stack m s .chained a h z r .0) c
+
+-- so machines of the same limits and as many copies that lend the same have the same words
+pub same-words : (m w : Machine) → Sound m → Sound w → m .limits ≡ w .limits → image m ≡ image w → length (copies m) ≡ length (copies w) →
+    (a : ℕ) → a < 2 ^ (width m) → (c : ℕ) → 0 < c → c ≤ length (copies m) → wordIn m a c ≡ wordIn w a c
+same-words m w s t limits lent copied a h c x y =
+    word-view m s a h c x y ∙ (λ i. viewAt (limits i .address) (copied i) (lentLayers (limits i) (lent i)) a c)
+    ∙ sym (word-view w t a (omega (arith, ap (λ (l : Limits). 2 ^ (l .address)) limits)) c x (omega arith))
