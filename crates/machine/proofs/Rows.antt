@@ -61,5 +61,10 @@ module _ (m : Machine) (s : Sound m) where
   pub tables-length : length (tablesImage m) ≡ 2 + (m .limits .choices + 1) * 32
   unfolding tablesImage
   tables-length =
-      omega (arith, s .choices, length-append (rows (width m) (copies m)) (replicate ((m .limits .choices - length (m .saved)) * 32) 0), rows-length (width m) (copies m) full,
-      length-replicate {A = ℕ} ((m .limits .choices - length (m .saved)) * 32) 0)
+      omega (
+        arith,
+        s .choices,
+        length-append (rows (width m) (copies m)) (replicate ((m .limits .choices - length (m .saved)) * 32) 0),
+        rows-length (width m) (copies m) full,
+        length-replicate {A = ℕ} ((m .limits .choices - length (m .saved)) * 32) 0,
+      )

@@ -39,9 +39,12 @@ module _ (k : ℕ) (least : 4 ≤ k) (most : k ≤ 16) where
       (s ≡ t) × (i ≡ j) × (p .words ≡ q .words)
   unfolding pageWords
   page-same s t hs ht i j hi hj p q a b h l e =
-      let d = link-same k least most s t hs ht i j hi hj (e 0 (omega arith)) in
-      (d .0, d .1, words-same 15 (p .words) (q .words) a b h l
-      (λ n x. sym (zeros-after (map (cellWord k) (p .words)) (15 - length (p .words)) n) ∙ e (suc n) (omega arith) ∙ zeros-after (map (cellWord k) (q .words)) (15 - length (q .words)) n))
+      let d = link-same k least most s t hs ht i j hi hj (e 0 (omega arith)) in (
+        d .0,
+        d .1,
+        words-same 15 (p .words) (q .words) a b h l
+            (λ n x. sym (zeros-after (map (cellWord k) (p .words)) (15 - length (p .words)) n) ∙ e (suc n) (omega arith) ∙ zeros-after (map (cellWord k) (q .words)) (15 - length (q .words)) n),
+      )
 
 -- ---- lists of pages that hold the same pages, each with the same page after it, are one
 
