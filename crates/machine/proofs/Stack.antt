@@ -150,17 +150,17 @@ module _ (m : Machine) (s : Sound m) where
   }
 
   -- the conditions on the page that a turned link names
-  abbrev Names : ℕ → ℕ → Type 0
-  Names a w = (nextAddress (width m) w < 2 ^ (width m)) × ((c : ℕ) → 0 < c → c ≤ count → turned (wordIn m a c) ≡ filled (wordIn m (nextAddress (width m) w) c))
+  abbrev Chains : ℕ → ℕ → Type 0
+  Chains a w = (nextAddress (width m) w < 2 ^ (width m)) × ((c : ℕ) → 0 < c → c ≤ count → turned (wordIn m a c) ≡ filled (wordIn m (nextAddress (width m) w) c))
 
-  names : (n l : ℕ) → 0 < l → l ≤ count → ((c : ℕ) → l < c → c ≤ count → link (copy c) n ≡ 0) → turned (link (copy l) n) ≡ true → Names (n * 16) (link (copy l) n)
+  names : (n l : ℕ) → 0 < l → l ≤ count → ((c : ℕ) → l < c → c ≤ count → link (copy c) n ≡ 0) → turned (link (copy l) n) ≡ true → Chains (n * 16) (link (copy l) n)
   unfolding NextFits
   names n l x y late t = by (h .next) refl
     where
       h : Home (copy l .regions) n
       h = holds m s (copy l) n (turned-filled (link (copy l) n) t)
 
-      by : (j : Option ℕ) → h .next ≡ j → Names (n * 16) (link (copy l) n)
+      by : (j : Option ℕ) → h .next ≡ j → Chains (n * 16) (link (copy l) n)
       by none e = absurd (true≢false (sym t ∙ link-last m s (copy l) (here l x y) h e))
       by (some q) e =
           let f : q < 2 ^ (width m - 4) = subst (NextFits (width m)) e (next-fit m s (copy l) (here l x y) h) in
@@ -169,7 +169,7 @@ module _ (m : Machine) (s : Sound m) where
           ∙ link-names (width m) (s .limits .least) (s .limits .most) (h .region .stamp) q f in
           rw w (omega (arith, page-width (width m) (s .limits .least)), chained-at n l q x y h e late)
 
-  chained : (a l : ℕ) → a % 16 ≡ 0 → Newest (λ c. filled (wordIn m (linkAddress a) c)) count l → turned (if eqb l 0 then 0 else wordIn m a l) ≡ true → Names a (if eqb l 0 then 0 else wordIn m a l)
+  chained : (a l : ℕ) → a % 16 ≡ 0 → Newest (λ c. filled (wordIn m (linkAddress a) c)) count l → turned (if eqb l 0 then 0 else wordIn m a l) ≡ true → Chains a (if eqb l 0 then 0 else wordIn m a l)
   chained a l r (none z f) t = absurd (true≢false (sym t ∙ (rw (eq-eqb l 0 z) zero-not-turned)))
   chained a l r (until x y w f) t =
       let e : a / 16 * 16 ≡ a = omega arith in

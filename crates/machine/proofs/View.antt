@@ -77,7 +77,7 @@ module _ (m : Machine) (s : Sound m) where
       by true e = refl
       by false e = zero-in l (omega tests) (newest-le (λ c. filled (wordIn m (linkAddress a) c)) count) (spot (width m) (numbered (copies m) l .regions) (a / 16))
 
-  -- ---- the lent words and marks are the layers
+  -- ---- the lent words and marks
 
   same-heap : (a : ℕ) → layers count (wordIn m) .heap a ≡ lentLayers (m .limits) (image m) .heap a
   unfolding image layers lentLayers
@@ -89,7 +89,8 @@ module _ (m : Machine) (s : Sound m) where
       by true true d e = outside a (λ i. omega tests) ∙ sym (List·getD-eq-default (heapImage m) 0 (omega (tests, heap-length m s)))
       by true false d e = sym (heap-at m s a (omega tests) (omega tests))
 
-  lent-layers : Same (2 ^ (width m)) (layers count (wordIn m)) (lentLayers (m .limits) (image m))
+  -- WHAT IS LENT IS THE LAYERS OF THE COPIES
+  pub lent-layers : Same (2 ^ (width m)) (layers count (wordIn m)) (lentLayers (m .limits) (image m))
   unfolding image lentLayers
   lent-layers = record {
     heap = λ a h. same-heap a;
