@@ -3,10 +3,11 @@ use mathlib.Core.Path.{_≡_, refl, sym, ap, _∙_, subst}
 use mathlib.Core.Bool.{Bool, true, false, not, _||_, true≢false}
 use mathlib.Core.Logic.{_⊎_, inl, inr, _≢_}
 use mathlib.Core.List.{List, [], _∷_, _++_, map, List·Memᴰ, List·Memᴰ·head, List·Memᴰ·tail, List·Memᴰ·cases-cons, List·Memᴰ·not-nil}
+use mathlib.Core.Option.{some, Option·none-ne-some, Option·some-injective}
 use Prim.Native.Nat.{ℕ, zero, suc, _≤_}
 use native.Mathlib.Omega.{arith}
-use lib.ListN.{length, replicate}
-use Rattle.laws.specs.Base.{if_then_else_, keep, some-of, Each, Pairs}
+use lib.ListN.{length, getD, set, replicate}
+use Rattle.laws.specs.Base.{if_then_else_, keep, first, some-of, Each, Pairs}
 
 pub each-replicate : {A : Type 0} (P : A → Type 0) (n : ℕ) (x : A) → P x → Each P (replicate n x)
 each-replicate P zero x h = tt
@@ -97,9 +98,15 @@ pub each-imp : {A : Type 0} (P Q : A → Type 0) (l : List A) → ((x : A) → L
 each-imp P Q [] h e = tt
 each-imp P Q (x ∷ xs) h e = (h x (List·Memᴰ·head refl) (e .0), each-imp P Q xs (λ y m. h y (List·Memᴰ·tail m)) (e .1))
 
+pub pairs-imp-at : {A : Type 0} (P Q : A → A → Type 0) (l : List A) → ((x y : A) → List·Memᴰ x l → List·Memᴰ y l → P x y → Q x y) → Pairs P l → Pairs Q l
+pairs-imp-at P Q [] h e = tt
+pairs-imp-at P Q (x ∷ xs) h e = (
+  each-imp (P x) (Q x) xs (λ y m. h x y (List·Memᴰ·head refl) (List·Memᴰ·tail m)) (e .0),
+  pairs-imp-at P Q xs (λ y z m n. h y z (List·Memᴰ·tail m) (List·Memᴰ·tail n)) (e .1),
+)
+
 pub pairs-imp : {A : Type 0} (P Q : A → A → Type 0) (l : List A) → ((x y : A) → P x y → Q x y) → Pairs P l → Pairs Q l
-pairs-imp P Q [] h e = tt
-pairs-imp P Q (x ∷ xs) h e = (each-imp (P x) (Q x) xs (λ y m. h x y) (e .0), pairs-imp P Q xs h (e .1))
+pairs-imp P Q l h = pairs-imp-at P Q l (λ x y m n. h x y)
 
 pub each-append : {A : Type 0} (P : A → Type 0) (a b : List A) → Each P a → Each P b → Each P (a ++ b)
 each-append P [] b h k = k
@@ -141,6 +148,15 @@ some-at {A} f (y ∷ ys) e = by (f y) refl e (λ k. some-at f ys k)
     by true q k ih = (y, List·Memᴰ·head refl, q)
     by false q k ih = (ih k .0, List·Memᴰ·tail (ih k .1), ih k .2)
 
+-- what is found first passes the test, and is there
+pub first-at : {A : Type 0} (f : A → Bool) (l : List A) (x : A) → first f l ≡ some x → List·Memᴰ x l × (f x ≡ true)
+first-at f [] x e = absurd (Option·none-ne-some x e)
+first-at f (y ∷ ys) x e = by (f y) refl e (λ k. first-at f ys x k)
+  where
+    by : (t : Bool) → f y ≡ t → (if t then some y else first f ys) ≡ some x → (first f ys ≡ some x → List·Memᴰ x ys × (f x ≡ true)) → List·Memᴰ x (y ∷ ys) × (f x ≡ true)
+    by true q k ih = let z : y ≡ x = Option·some-injective y x k in (List·Memᴰ·head (sym z), ap f (sym z) ∙ q)
+    by false q k ih = (List·Memᴰ·tail (ih k .0), ih k .1)
+
 pub not-true : (b : Bool) → not b ≡ true → b ≡ false
 not-true true e = sym e
 not-true false e = refl
@@ -172,3 +188,15 @@ map-mem f (z ∷ zs) x y h e = by (List·Memᴰ·cases-cons h) (λ k. map-mem f 
     by : (x ≡ z) ⊎ List·Memᴰ x zs → (List·Memᴰ x zs → List·Memᴰ y (map f zs)) → List·Memᴰ y (f z ∷ map f zs)
     by (inl q) ih = List·Memᴰ·head (e ∙ ap f q)
     by (inr m) ih = List·Memᴰ·tail (ih m)
+
+-- one element written: the others stay, and past the end nothing is written
+pub each-set : {A : Type 0} (P : A → Type 0) (l : List A) (i : ℕ) (x : A) → Each P l → P x → Each P (set l i x)
+each-set P [] i x h k = tt
+each-set P (y ∷ ys) zero x h k = (k, h .1)
+each-set P (y ∷ ys) (suc i) x h k = (h .0, each-set P ys i x (h .1) k)
+
+-- one element read: past the end it is the default
+pub each-getD : {A : Type 0} (P : A → Type 0) (l : List A) (i : ℕ) (x : A) → Each P l → P x → P (getD l i x)
+each-getD P [] i x h k = k
+each-getD P (y ∷ ys) zero x h k = h .0
+each-getD P (y ∷ ys) (suc i) x h k = each-getD P ys i x (h .1) k

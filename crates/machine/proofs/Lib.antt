@@ -14,3 +14,15 @@ pub mod Rows
 pub mod Lengths
 pub mod Injective
 pub mod Once
+pub mod Registers
+pub mod Choices
+pub mod Kill
+pub mod Cells
+pub mod Follow
+pub mod Free
+pub mod Put
+pub mod Make
+pub mod Bind
+pub mod DerefSound
+pub mod UnifySound
+pub mod Build

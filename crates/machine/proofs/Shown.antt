@@ -1,23 +1,16 @@
 -- The regions that the copies show, and the slots that they take: as many as there are stamps in the copies.
 use mathlib.Core.Path.{_≡_, refl, sym, ap, _∙_, subst}
-use mathlib.Core.Bool.{Bool, true, false, not, _||_, true≢false}
+use mathlib.Core.Bool.{Bool, true, false, not, true≢false}
 use mathlib.Core.Logic.{_⊎_, inl, inr, _≢_}
 use mathlib.Core.List.{List, [], _∷_, _++_, map, List·Memᴰ, List·Memᴰ·head, List·Memᴰ·tail, List·Memᴰ·cases-cons, List·Memᴰ·not-nil, List·Memᴰ·append-cases}
-use mathlib.Core.Option.{Option, none, some, Option·none-ne-some}
-use Prim.Native.Nat.{ℕ, zero, suc, _+_, _^_, _≤_, _<_}
+use Prim.Native.Nat.{ℕ, _+_, _≤_, _<_}
 use native.Mathlib.Omega.{arith}
-use lib.Dec.{eqb, leb}
-use borrow.Author.Tests.{eq-eqb, ne-eqb, eqb-true, eqb-false, leb-false}
-use lib.ListN.{length, replicate, length-map}
-use Rattle.laws.specs.Base.{if_then_else_, keep, some-of, Each, Pairs}
-use Rattle.laws.proofs.Lists.{each-replicate, each-of, each-at, each-imp, each-by, pairs-imp, pairs-map, pairs-append, pairs-keep, kept-at, keep-at, some-yes, some-at, mem-left, mem-right, mem-map, map-mem, no-more, not-true}
-use Rattle.words.specs.declared.Ref.{Ref}
-use Rattle.words.specs.declared.Cell.{Cell}
-use Rattle.words.specs.declared.Cell.the-variants.{Unbound, Bound, Int, Head, Argument}
-use Rattle.words.specs.declared.Register.{Register}
-use Rattle.words.specs.declared.Register.the-variants as Reg
-use Rattle.machine.specs.Copies.{Limits, Page, Region, Copy, Machine, copies, withCopies, opening, bare, lists, held, stamped, live, shown, slots, inPages, inRegions, cellAt}
-use Rattle.machine.specs.Sound.{LimitsOk, Sound, CopyOk, RegionOk, Filled, RegisterIn, RegisterNames, Names, CellNames, Later, Grown, SamePages, TopGrown, RegionGrown, CopyGrown, PagesApart, NoReturn, IsVariable}
+use borrow.Author.Tests.{eq-eqb, eqb-true}
+use lib.ListN.{length, length-map, length-append}
+use Rattle.laws.specs.Base.{keep, Each, Pairs}
+use Rattle.laws.proofs.Lists.{each-imp, pairs-imp, pairs-map, pairs-append, pairs-keep, kept-at, keep-at, some-yes, some-at, mem-left, mem-right, mem-map, map-mem, no-more, not-true}
+use Rattle.machine.specs.Copies.{Limits, Region, Copy, stamped, live, shown}
+use Rattle.machine.specs.Sound.{CopyOk}
 
 abbrev Apart : Region → Region → Type 0
 Apart g h = g .stamp ≢ h .stamp
@@ -80,18 +73,27 @@ found-for cs s m =
     let a = mem-map stampOf (shown cs) s m in
     subst (λ (x : ℕ). (c : Copy) × List·Memᴰ c cs × (live c x ≡ true)) (sym (a .2)) (shown-live cs (a .0) (a .1))
 
+-- copies whose stamps are new or in the others take at most a slot more for each new stamp
+pub slots-more : (cs ds : List Copy) (new : List ℕ) → Each InOrder cs →
+    ((c : Copy) (s : ℕ) → List·Memᴰ c cs → live c s ≡ true → List·Memᴰ s new ⊎ ((d : Copy) × List·Memᴰ d ds × (live d s ≡ true))) →
+    length (shown cs) ≤ length new + length (shown ds)
+unfolding stampOf
+slots-more cs ds new o h =
+    let k : length (map stampOf (shown cs)) ≤ length (new ++ map stampOf (shown ds)) =
+    no-more (map stampOf (shown cs)) (new ++ map stampOf (shown ds)) (pairs-map (λ (a b : ℕ). a ≢ b) stampOf (shown cs) (shown-apart cs o))
+    (λ s m. let b = found-for cs s m in found s (h (b .0) s (b .1) (b .2)))
+    in
+    omega (arith, length-map (shown cs) stampOf, length-map (shown ds) stampOf, length-append new (map stampOf (shown ds)))
+  where
+    found : (s : ℕ) → List·Memᴰ s new ⊎ ((d : Copy) × List·Memᴰ d ds × (live d s ≡ true)) → List·Memᴰ s (new ++ map stampOf (shown ds))
+    found s (inl m) = mem-left new (map stampOf (shown ds)) s m
+    found s (inr f) = mem-right new (map stampOf (shown ds)) s (found-in ds s (f .0) (f .1) (f .2))
+
 -- copies that have no other stamps take no more slots
 pub slots-le : (cs ds : List Copy) → Each InOrder cs → ((c : Copy) (s : ℕ) → List·Memᴰ c cs → live c s ≡ true → (d : Copy) × List·Memᴰ d ds × (live d s ≡ true)) → length (shown cs) ≤ length (shown ds)
-unfolding stampOf
 slots-le cs ds o h =
-    let k : length (map stampOf (shown cs)) ≤ length (map stampOf (shown ds)) =
-    no-more (map stampOf (shown cs)) (map stampOf (shown ds)) (pairs-map (λ (a b : ℕ). a ≢ b) stampOf (shown cs) (shown-apart cs o))
-    (λ s m.
-    let b = found-for cs s m in
-    let f = h (b .0) s (b .1) (b .2) in
-    found-in ds s (f .0) (f .1) (f .2))
-    in
-    omega (arith, length-map (shown cs) stampOf, length-map (shown ds) stampOf)
+    let k : length (shown cs) ≤ 0 + length (shown ds) = slots-more cs ds [] o (λ c s m l. inr (h c s m l)) in
+    omega arith
 
 pub fewer-le : (cs ds : List Copy) → Each InOrder cs → ((c : Copy) → List·Memᴰ c cs → List·Memᴰ c ds) → length (shown cs) ≤ length (shown ds)
 fewer-le cs ds o h = slots-le cs ds o (λ c s m l. (c, h c m, l))
