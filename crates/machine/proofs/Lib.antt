@@ -20,3 +20,16 @@ pub mod Bind
 pub mod UnifySound
 pub mod DerefSound
 pub mod Kept
+pub mod Fits
+pub mod Turning
+pub mod Spots
+pub mod Numbered
+pub mod Homes
+pub mod Stack
+pub mod Heap
+pub mod View
+pub mod SameCopies
+pub mod Rows
+pub mod Lengths
+pub mod Injective
+pub mod Once
