@@ -1,0 +1,43 @@
+-- The steps of a proof that code undoes what the definitions say.
+use mathlib.Core.Bool.{Bool}
+use mathlib.Core.List.{List}
+use mathlib.Core.Path.{_≡_}
+use Prim.Native.Nat.{ℕ}
+use lib.Dec.{eqb}
+use lib.ListN.{getD, set}
+use Rattle.laws.proofs.Pick.{yes, no}
+use Rattle.laws.proofs.Rules.{laws}
+use Rattle.words.specs.Fields.{bits}
+use Rattle.store.specs.declared.Which.{Which}
+use Rattle.store.specs.declared.Which.the-variants.{Marked, Stamped}
+use Rattle.store.specs.Memory.{memory}
+use Rattle.store.specs.Undo.{struckBy, struck, cellWordAfter, cellBornAfter, cellTurnAfter}
+
+-- by the case of what is struck
+module _ (which : Which) (r : Bool) (w u : ℕ) where
+  pub by-mark : (t : ℕ) → which ≡ Marked t → r ≡ eqb u t → r ≡ struckBy which w u
+  unfolding struckBy
+  by-mark t e q = rw e q
+
+  pub by-stamp : (s k : ℕ) → which ≡ Stamped s → r ≡ eqb k s → k ≡ bits 28 32 w → r ≡ struckBy which w u
+  unfolding struckBy
+  by-stamp s k e q h = rw (e, ← h) q
+
+-- memories with the same lists are the same
+pub memory-is : (h h′ b b′ u u′ : List ℕ) → h ≡ h′ → b ≡ b′ → u ≡ u′ → memory h b u ≡ memory h′ b′ u′
+memory-is h h′ b b′ u u′ x y z = λ i. memory (x i) (y i) (z i)
+
+-- what a call found, where the definition has what it reads
+pub via-struck : (which : Which) (r : Bool) (k w l u : ℕ) → r ≡ struck which k l → k ≡ w → l ≡ u → r ≡ struck which w u
+via-struck which r k w l u e p q = rw (← p, ← q) e
+
+-- the stores to a cell, where s, w, x and y are what the code read
+pub cell-stores : (h b u h′ b′ u′ : List ℕ) (j last a : ℕ) (s t : Bool) (w x y : ℕ) →
+    h′ ≡ set h a (cellWordAfter s j w x y) → b′ ≡ set b a (cellBornAfter s j last x) → u′ ≡ set u a (cellTurnAfter s j last x y) →
+    s ≡ t → w ≡ getD h a 0 → x ≡ getD b a 0 → y ≡ getD u a 0 →
+    memory h′ b′ u′
+    ≡ memory (set h a (cellWordAfter t j (getD h a 0) (getD b a 0) (getD u a 0))) (set b a (cellBornAfter t j last (getD b a 0)))
+    (set u a (cellTurnAfter t j last (getD b a 0) (getD u a 0)))
+cell-stores h b u h′ b′ u′ j last a s t w x y eh eb eu es ew ex ey = rw (← es, ← ew, ← ex, ← ey) (memory-is h′ _ b′ _ u′ _ eh eb eu)
+
+pub ruleset undoing = (laws, yes, no, by-mark, by-stamp, memory-is, via-struck, cell-stores)

@@ -1,0 +1,131 @@
+// The undo that kill, cut and backtrack share: what copy j brought goes from the pages that are struck; `last` is the number of the present copy afterwards.
+// It goes in three passes, so that each reads what the ones before it have left: first all cells, which read their page's link; then all link words, which read
+// the born mark of the next page; then the links' marks.
+
+ghost use mathlib.Core.Path.{_≡_};
+ghost use Prim.Native.Nat.{min};
+ghost use lib.ListN.{getD, set};
+ghost use Rattle.store.specs.Memory.{memory};
+ghost use Rattle.store.specs.Undo as after;
+use crate::cells;
+use crate::Which;
+use words::heap::{has_next, next_page, stamp, STAMP_AT, TAG_AT};
+
+fn lesser(x: u8, y: u8) -> u8
+    ensures { λ r. ⌜ r ≡ min x y ⌝ }
+{
+    if x < y { x } else { y }
+}
+
+fn struck_by(which: Which, w: u64, u: u8) -> bool
+    ensures { λ r. ⌜ r ≡ after.struckBy which w u ⌝ }
+{
+    match which {
+        Which::Marked(t) => u == t,
+        Which::Stamped(s) => stamp(w) == s,
+    }
+}
+
+// A free page is never struck.
+fn struck(which: Which, w: u64, u: u8) -> bool
+    ensures { λ r. ⌜ r ≡ after.struck which w u ⌝ }
+{
+    if w == 0 {
+        return false;
+    }
+    struck_by(which, w, u)
+}
+
+// Is the page struck whose link is at address p?
+fn page_struck(heap: &[u64], turned: &[u8], which: Which, p: usize) -> bool
+    ensures { λ r. ⌜ r ≡ after.struck which (getD (now (heap .entry)) p 0) (getD (now (turned .entry)) p 0) ⌝ }
+{
+    struck(which, cells::word(heap, p), cells::mark(turned, p))
+}
+
+// On a page that is struck (s), a word that was filled in copy j goes, and a variable that was bound in copy j is unbound again.
+fn cell_word_after(s: bool, j: u8, w: u64, b: u8, u: u8) -> u64
+    ensures { λ r. ⌜ r ≡ after.cellWordAfter s j w b u ⌝ }
+{
+    if s {
+        if b == j {
+            return 0;
+        }
+        if u == j {
+            return TAG_AT;
+        }
+        return w;
+    }
+    w
+}
+
+fn cell_born_after(s: bool, j: u8, last: u8, b: u8) -> u8
+    ensures { λ r. ⌜ r ≡ after.cellBornAfter s j last b ⌝ }
+{
+    if s {
+        if b == j {
+            return 0;
+        }
+        return lesser(b, last);
+    }
+    lesser(b, last)
+}
+
+fn cell_turn_after(s: bool, j: u8, last: u8, b: u8, u: u8) -> u8
+    ensures { λ r. ⌜ r ≡ after.cellTurnAfter s j last b u ⌝ }
+{
+    if s {
+        if b == j {
+            return 0;
+        }
+        if u == j {
+            return 0;
+        }
+        return lesser(u, last);
+    }
+    lesser(u, last)
+}
+
+// The cell at address a, given its word and marks and whether its page is struck.
+fn put_cell(
+    heap: &mut [u64],
+    born: &mut [u8],
+    turned: &mut [u8],
+    s: bool,
+    j: u8,
+    last: u8,
+    a: usize,
+    w: u64,
+    b: u8,
+    u: u8,
+)
+    ensures heap { λ _. ⌜ now (heap .exit) ≡ set (now (heap .entry)) a (after.cellWordAfter s j w b u) ⌝ }
+    ensures born { λ _. ⌜ now (born .exit) ≡ set (now (born .entry)) a (after.cellBornAfter s j last b) ⌝ }
+    ensures turned { λ _. ⌜ now (turned .exit) ≡ set (now (turned .entry)) a (after.cellTurnAfter s j last b u) ⌝ }
+{
+    cells::put(heap, a, cell_word_after(s, j, w, b, u));
+    cells::set_mark(born, a, cell_born_after(s, j, last, b));
+    cells::set_mark(turned, a, cell_turn_after(s, j, last, b, u));
+}
+
+// The cell at address a. A link is none.
+fn undo_cell(
+    heap: &mut [u64],
+    born: &mut [u8],
+    turned: &mut [u8],
+    which: Which,
+    j: u8,
+    last: u8,
+    a: usize,
+)
+    ensures { λ _. ⌜ memory (now (heap .exit)) (now (born .exit)) (now (turned .exit)) ≡ after.cellAfter which j last a (memory (now (heap .entry)) (now (born .entry)) (now (turned .entry))) ⌝ }
+{
+    if a % 16 == 0 {
+        return;
+    }
+    let s = page_struck(heap, turned, which, a / 16 * 16);
+    let w = cells::word(heap, a);
+    let b = cells::mark(born, a);
+    let u = cells::mark(turned, a);
+    put_cell(heap, born, turned, s, j, last, a, w, b, u)
+}
