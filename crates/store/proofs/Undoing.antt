@@ -2,16 +2,18 @@
 use mathlib.Core.Bool.{Bool}
 use mathlib.Core.List.{List}
 use mathlib.Core.Path.{_≡_}
-use Prim.Native.Nat.{ℕ}
+use Prim.Native.Nat.{ℕ, _*_}
 use lib.Dec.{eqb}
 use lib.ListN.{getD, set}
+use Rattle.laws.specs.Pick.{pick}
 use Rattle.laws.proofs.Pick.{yes, no}
+use Rattle.laws.proofs.Via.{via-flag}
 use Rattle.laws.proofs.Rules.{laws}
 use Rattle.words.specs.Fields.{bits}
 use Rattle.store.specs.declared.Which.{Which}
 use Rattle.store.specs.declared.Which.the-variants.{Marked, Stamped}
 use Rattle.store.specs.Memory.{memory}
-use Rattle.store.specs.Undo.{struckBy, struck, cellWordAfter, cellBornAfter, cellTurnAfter}
+use Rattle.store.specs.Undo.{struckBy, struck, cellWordAfter, cellBornAfter, cellTurnAfter, linkWordAfter, goneAfter, linkBornAfter, linkTurnAfter}
 
 -- by the case of what is struck
 module _ (which : Which) (r : Bool) (w u : ℕ) where
@@ -40,4 +42,26 @@ pub cell-stores : (h b u h′ b′ u′ : List ℕ) (j last a : ℕ) (s t : Bool
     (set u a (cellTurnAfter t j last (getD b a 0) (getD u a 0)))
 cell-stores h b u h′ b′ u′ j last a s t w x y eh eb eu es ew ex ey = rw (← es, ← ew, ← ex, ← ey) (memory-is h′ _ b′ _ u′ _ eh eb eu)
 
-pub ruleset undoing = (laws, yes, no, by-mark, by-stamp, memory-is, via-struck, cell-stores)
+pub via-page : (l : List ℕ) (r k p : ℕ) → r ≡ getD l (k * 16) 0 → k ≡ p → r ≡ getD l (p * 16) 0
+via-page l r k p e q = rw (← q) e
+
+-- the choice between two marks of a link
+pub via-gone : (last j u : ℕ) (s : Bool) (r k : ℕ) → r ≡ goneAfter last k → k ≡ pick s j u → r ≡ goneAfter last (pick s j u)
+via-gone last j u s r k e q = rw (← q) e
+
+-- the store to a link word, where s, w, x and n are what the code read
+pub link-stores : (h b u h′ : List ℕ) (j a : ℕ) (s t : Bool) (w x n v : ℕ) → h′ ≡ set h a v → v ≡ linkWordAfter s j w x n →
+    s ≡ t → w ≡ getD h a 0 → x ≡ getD b a 0 → n ≡ getD b (bits 19 8 w * 16) 0 →
+    memory h′ b u ≡ memory (set h a (linkWordAfter t j (getD h a 0) (getD b a 0) (getD b (bits 19 8 (getD h a 0) * 16) 0))) b u
+link-stores h b u h′ j a s t w x n v eh ev es ew ex en = rw (← es, ← ew, ← ex, ← en, ← ev, eh)
+
+-- the stores to a link's marks, where s, w, x and y are what the code read
+pub mark-stores : (h b u b′ u′ : List ℕ) (j last a : ℕ) (which : Which) (s : Bool) (w x y : ℕ) →
+    b′ ≡ set b a (linkBornAfter last w x) → u′ ≡ set u a (linkTurnAfter s j last w y) →
+    s ≡ struck which w y → w ≡ getD h a 0 → x ≡ getD b a 0 → y ≡ getD u a 0 →
+    memory h b′ u′
+    ≡ memory h (set b a (linkBornAfter last (getD h a 0) (getD b a 0)))
+    (set u a (linkTurnAfter (struck which (getD h a 0) (getD u a 0)) j last (getD h a 0) (getD u a 0)))
+mark-stores h b u b′ u′ j last a which s w x y eb eu es ew ex ey = rw (← ew, ← ex, ← ey, ← es, eb, eu)
+
+pub ruleset undoing = (laws, yes, no, by-mark, by-stamp, memory-is, via-struck, cell-stores, via-page, via-gone, link-stores, via-flag, mark-stores)

@@ -3,8 +3,9 @@
 // the born mark of the next page; then the links' marks.
 
 ghost use mathlib.Core.Path.{_≡_};
-ghost use Prim.Native.Nat.{min};
+ghost use Prim.Native.Nat.{_-_, _*_, _%_, _^_, min};
 ghost use lib.ListN.{getD, set};
+ghost use Rattle.words.specs.Fields.{bits};
 ghost use Rattle.store.specs.Memory.{memory};
 ghost use Rattle.store.specs.Undo as after;
 use crate::cells;
@@ -128,4 +129,102 @@ fn undo_cell(
     let b = cells::mark(born, a);
     let u = cells::mark(turned, a);
     put_cell(heap, born, turned, s, j, last, a, w, b, u)
+}
+
+// A link without its next page: tag and stamp alone.
+fn without_next(w: u64) -> u64
+    ensures { λ r. ⌜ r ≡ w - w % 2 ^ 28 ⌝ }
+{
+    w - w % STAMP_AT
+}
+
+// A page that joined in copy j goes, and so does the next page of one that stays.
+fn link_word_after(s: bool, j: u8, w: u64, b: u8, next: u8) -> u64
+    ensures { λ r. ⌜ r ≡ after.linkWordAfter s j w b next ⌝ }
+{
+    if s {
+        if b == j {
+            return 0;
+        }
+        if has_next(w) {
+            if next == j {
+                return without_next(w);
+            }
+            return w;
+        }
+        return w;
+    }
+    w
+}
+
+// The born mark of the page that a link names as its next.
+fn next_born(born: &[u8], w: u64) -> u8
+    ensures { λ r. ⌜ r ≡ getD (now (born .entry)) (bits 19 8 w * 16) 0 ⌝ }
+{
+    cells::mark(born, next_page(w) as usize * 16)
+}
+
+// The link word of page p.
+fn undo_link(heap: &mut [u64], born: &[u8], turned: &[u8], which: Which, j: u8, p: u32)
+    ensures { λ _. ⌜ memory (now (heap .exit)) (now (born .entry)) (now (turned .entry)) ≡ after.linkAfter which j p (memory (now (heap .entry)) (now (born .entry)) (now (turned .entry))) ⌝ }
+{
+    let a = p as usize * 16;
+    let s = page_struck(heap, turned, which, a);
+    let w = cells::word(heap, a);
+    let b = cells::mark(born, a);
+    let next = next_born(born, w);
+    cells::put(heap, a, link_word_after(s, j, w, b, next));
+}
+
+// A region whose newest copy is the present one has the mark 0.
+fn gone_after(last: u8, u: u8) -> u8
+    ensures { λ r. ⌜ r ≡ after.goneAfter last u ⌝ }
+{
+    if u == last { 0 } else { u }
+}
+
+fn link_born_after(last: u8, w: u64, b: u8) -> u8
+    ensures { λ r. ⌜ r ≡ after.linkBornAfter last w b ⌝ }
+{
+    if w == 0 { 0 } else { lesser(b, last) }
+}
+
+// The copy before copy j; there is none before copy 0.
+fn before(j: u8) -> u8
+    ensures { λ r. ⌜ r ≡ j - 1 ⌝ }
+{
+    if j == 0 { 0 } else { j - 1 }
+}
+
+fn link_turn_after(s: bool, j: u8, last: u8, w: u64, u: u8) -> u8
+    ensures { λ r. ⌜ r ≡ after.linkTurnAfter s j last w u ⌝ }
+{
+    if w == 0 {
+        return 0;
+    }
+    if s {
+        return gone_after(last, before(j));
+    }
+    gone_after(last, u)
+}
+
+// The marks of the link at address a, given its word and marks and whether its page is struck.
+fn put_marks(born: &mut [u8], turned: &mut [u8], s: bool, j: u8, last: u8, a: usize, w: u64, b: u8, u: u8)
+    ensures born { λ _. ⌜ now (born .exit) ≡ set (now (born .entry)) a (after.linkBornAfter last w b) ⌝ }
+    ensures turned { λ _. ⌜ now (turned .exit) ≡ set (now (turned .entry)) a (after.linkTurnAfter s j last w u) ⌝ }
+{
+    cells::set_mark(born, a, link_born_after(last, w, b));
+    cells::set_mark(turned, a, link_turn_after(s, j, last, w, u));
+}
+
+// The marks of page p's link, by the word that it has now.
+fn undo_mark(heap: &[u64], born: &mut [u8], turned: &mut [u8], which: Which, j: u8, last: u8, p: u32)
+    ensures { λ _. ⌜ memory (now (heap .entry)) (now (born .exit)) (now (turned .exit)) ≡ after.markAfter which j last p (memory (now (heap .entry)) (now (born .entry)) (now (turned .entry))) ⌝ }
+{
+    let a = p as usize * 16;
+    let w = cells::word(heap, a);
+    let b = cells::mark(born, a);
+    let u = cells::mark(turned, a);
+    let s = struck(which, w, u);
+    put_marks(born, turned, s, j, last, a, w, b, u)
 }
