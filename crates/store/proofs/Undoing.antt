@@ -12,8 +12,8 @@ use Rattle.laws.proofs.Rules.{laws}
 use Rattle.words.specs.Fields.{bits}
 use Rattle.store.specs.declared.Which.{Which}
 use Rattle.store.specs.declared.Which.the-variants.{Marked, Stamped}
-use Rattle.store.specs.Memory.{memory}
-use Rattle.store.specs.Undo.{struckBy, struck, cellWordAfter, cellBornAfter, cellTurnAfter, linkWordAfter, goneAfter, linkBornAfter, linkTurnAfter}
+use Rattle.store.specs.Memory.{Memory, memory}
+use Rattle.store.specs.Undo.{struckBy, struck, cellWordAfter, cellBornAfter, cellTurnAfter, linkWordAfter, goneAfter, linkBornAfter, linkTurnAfter, cellsAfter, linksAfter, marksAfter, undone}
 
 -- by the case of what is struck
 module _ (which : Which) (r : Bool) (w u : ℕ) where
@@ -64,4 +64,10 @@ pub mark-stores : (h b u b′ u′ : List ℕ) (j last a : ℕ) (which : Which) 
     (set u a (linkTurnAfter (struck which (getD h a 0) (getD u a 0)) j last (getD h a 0) (getD u a 0)))
 mark-stores h b u b′ u′ j last a which s w x y eb eu es ew ex ey = rw (← ew, ← ex, ← ey, ← es, eb, eu)
 
-pub ruleset undoing = (laws, yes, no, by-mark, by-stamp, memory-is, via-struck, cell-stores, via-page, via-gone, link-stores, via-flag, mark-stores)
+-- the passes, one after the other: x, y and z are what they leave
+pub three-passes : (first pages j last : ℕ) (which : Which) (m x y z : Memory) → x ≡ cellsAfter first pages which j last m →
+    y ≡ linksAfter first pages which j x → z ≡ marksAfter first pages which j last y → z ≡ undone first pages which j last m
+unfolding undone
+three-passes first pages j last which m x y z ex ey ez = rw (← ex, ← ey) ez
+
+pub ruleset undoing = (laws, yes, no, by-mark, by-stamp, memory-is, via-struck, cell-stores, via-page, via-gone, link-stores, via-flag, mark-stores, three-passes)

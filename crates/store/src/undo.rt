@@ -8,9 +8,13 @@ ghost use lib.ListN.{getD, set};
 ghost use Rattle.words.specs.Fields.{bits};
 ghost use Rattle.store.specs.Memory.{memory};
 ghost use Rattle.store.specs.Undo as after;
-use crate::cells;
 use crate::Which;
-use words::heap::{has_next, next_page, stamp, STAMP_AT, TAG_AT};
+use crate::cells;
+use words::heap::STAMP_AT;
+use words::heap::TAG_AT;
+use words::heap::has_next;
+use words::heap::next_page;
+use words::heap::stamp;
 
 fn lesser(x: u8, y: u8) -> u8
     ensures { λ r. ⌜ r ≡ min x y ⌝ }
@@ -209,7 +213,17 @@ fn link_turn_after(s: bool, j: u8, last: u8, w: u64, u: u8) -> u8
 }
 
 // The marks of the link at address a, given its word and marks and whether its page is struck.
-fn put_marks(born: &mut [u8], turned: &mut [u8], s: bool, j: u8, last: u8, a: usize, w: u64, b: u8, u: u8)
+fn put_marks(
+    born: &mut [u8],
+    turned: &mut [u8],
+    s: bool,
+    j: u8,
+    last: u8,
+    a: usize,
+    w: u64,
+    b: u8,
+    u: u8,
+)
     ensures born { λ _. ⌜ now (born .exit) ≡ set (now (born .entry)) a (after.linkBornAfter last w b) ⌝ }
     ensures turned { λ _. ⌜ now (turned .exit) ≡ set (now (turned .entry)) a (after.linkTurnAfter s j last w u) ⌝ }
 {
@@ -218,7 +232,15 @@ fn put_marks(born: &mut [u8], turned: &mut [u8], s: bool, j: u8, last: u8, a: us
 }
 
 // The marks of page p's link, by the word that it has now.
-fn undo_mark(heap: &[u64], born: &mut [u8], turned: &mut [u8], which: Which, j: u8, last: u8, p: u32)
+fn undo_mark(
+    heap: &[u64],
+    born: &mut [u8],
+    turned: &mut [u8],
+    which: Which,
+    j: u8,
+    last: u8,
+    p: u32,
+)
     ensures { λ _. ⌜ memory (now (heap .entry)) (now (born .exit)) (now (turned .exit)) ≡ after.markAfter which j last p (memory (now (heap .entry)) (now (born .entry)) (now (turned .entry))) ⌝ }
 {
     let a = p as usize * 16;
@@ -227,4 +249,85 @@ fn undo_mark(heap: &[u64], born: &mut [u8], turned: &mut [u8], which: Which, j: 
     let u = cells::mark(turned, a);
     let s = struck(which, w, u);
     put_marks(born, turned, s, j, last, a, w, b, u)
+}
+
+// ---- the three passes, over the pages from `first` on
+
+fn undo_cells(
+    heap: &mut [u64],
+    born: &mut [u8],
+    turned: &mut [u8],
+    first: u16,
+    pages: u16,
+    which: Which,
+    j: u8,
+    last: u8,
+)
+    ensures { λ _. ⌜ memory (now (heap .exit)) (now (born .exit)) (now (turned .exit)) ≡ after.cellsAfter first pages which j last (memory (now (heap .entry)) (now (born .entry)) (now (turned .entry))) ⌝ }
+{
+    let start = first as usize * 16;
+    let end = pages as usize * 16;
+    let mut i = 0;
+    while i < end {
+        undo_cell(heap, born, turned, which, j, last, start + i);
+        i += 1;
+    }
+}
+
+fn undo_links(
+    heap: &mut [u64],
+    born: &[u8],
+    turned: &[u8],
+    first: u16,
+    pages: u16,
+    which: Which,
+    j: u8,
+)
+    ensures { λ _. ⌜ memory (now (heap .exit)) (now (born .entry)) (now (turned .entry)) ≡ after.linksAfter first pages which j (memory (now (heap .entry)) (now (born .entry)) (now (turned .entry))) ⌝ }
+{
+    let start = first as u32;
+    let end = pages as u32;
+    let mut i = 0;
+    while i < end {
+        undo_link(heap, born, turned, which, j, start + i);
+        i += 1;
+    }
+}
+
+fn undo_marks(
+    heap: &[u64],
+    born: &mut [u8],
+    turned: &mut [u8],
+    first: u16,
+    pages: u16,
+    which: Which,
+    j: u8,
+    last: u8,
+)
+    ensures { λ _. ⌜ memory (now (heap .entry)) (now (born .exit)) (now (turned .exit)) ≡ after.marksAfter first pages which j last (memory (now (heap .entry)) (now (born .entry)) (now (turned .entry))) ⌝ }
+{
+    let start = first as u32;
+    let end = pages as u32;
+    let mut i = 0;
+    while i < end {
+        undo_mark(heap, born, turned, which, j, last, start + i);
+        i += 1;
+    }
+}
+
+pub fn undo(
+    heap: &mut [u64],
+    born: &mut [u8],
+    turned: &mut [u8],
+    first: u16,
+    pages: u16,
+    which: Which,
+    j: u8,
+    last: u8,
+)
+    ensures { λ _. ⌜ memory (now (heap .exit)) (now (born .exit)) (now (turned .exit)) ≡ after.undone first pages which j last (memory (now (heap .entry)) (now (born .entry)) (now (turned .entry))) ⌝ }
+{
+    undo_cells(heap, born, turned, first, pages, which, j, last);
+    undo_links(heap, born, turned, first, pages, which, j);
+    undo_marks(heap, born, turned, first, pages, which, j, last)
 }

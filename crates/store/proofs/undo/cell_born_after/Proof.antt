@@ -8,8 +8,8 @@ unfolding cellBornAfter
 cell-born-after-spec =
     tie.close
     (tie.spec
-    (λ c. search undoing) -- returns
-    (λ c κs. search undoing) -- lesser-requires
-    (λ c. search undoing) -- returns-2
-    (λ c κs. search undoing) -- lesser-requires-2
-    (λ c. search undoing)) -- returns-3
+    (λ c. search undoing)  -- returns
+    (λ c κs. search undoing)  -- lesser-requires
+    (λ c. search undoing)  -- returns-2
+    (λ c κs. search undoing)  -- lesser-requires-2
+    (λ c. search undoing))  -- returns-3

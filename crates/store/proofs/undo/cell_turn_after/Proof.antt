@@ -8,9 +8,9 @@ unfolding cellTurnAfter
 cell-turn-after-spec =
     tie.close
     (tie.spec
-    (λ c. search undoing) -- returns
-    (λ c. search undoing) -- returns-2
-    (λ c κs. search undoing) -- lesser-requires
-    (λ c. search undoing) -- returns-3
-    (λ c κs. search undoing) -- lesser-requires-2
-    (λ c. search undoing)) -- returns-4
+    (λ c. search undoing)  -- returns
+    (λ c. search undoing)  -- returns-2
+    (λ c κs. search undoing)  -- lesser-requires
+    (λ c. search undoing)  -- returns-3
+    (λ c κs. search undoing)  -- lesser-requires-2
+    (λ c. search undoing))  -- returns-4

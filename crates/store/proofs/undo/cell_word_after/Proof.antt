@@ -8,7 +8,7 @@ unfolding cellWordAfter
 cell-word-after-spec =
     tie.close
     (tie.spec
-    (λ c. search undoing) -- returns
-    (λ c. search undoing) -- returns-2
-    (λ c. search undoing) -- returns-3
-    (λ c. search undoing)) -- returns-4
+    (λ c. search undoing)  -- returns
+    (λ c. search undoing)  -- returns-2
+    (λ c. search undoing)  -- returns-3
+    (λ c. search undoing))  -- returns-4

@@ -8,5 +8,5 @@ unfolding goneAfter
 gone-after-spec =
     tie.close
     (tie.spec
-    (λ c. search undoing) -- returns
-    (λ c. search undoing)) -- returns-2
+    (λ c. search undoing)  -- returns
+    (λ c. search undoing))  -- returns-2

@@ -8,6 +8,6 @@ unfolding linkBornAfter
 link-born-after-spec =
     tie.close
     (tie.spec
-    (λ c κs. search undoing) -- lesser-requires
-    (λ c. search undoing) -- returns
-    (λ c. search undoing)) -- returns-2
+    (λ c κs. search undoing)  -- lesser-requires
+    (λ c. search undoing)  -- returns
+    (λ c. search undoing))  -- returns-2

@@ -8,9 +8,9 @@ unfolding linkTurnAfter
 link-turn-after-spec =
     tie.close
     (tie.spec
-    (λ c. search undoing) -- returns
-    (λ c κs. search undoing) -- before-requires
-    (λ c κs. search undoing) -- gone-after-requires
-    (λ c. search undoing) -- returns-2
-    (λ c κs. search undoing) -- gone-after-requires-2
-    (λ c. search undoing)) -- returns-3
+    (λ c. search undoing)  -- returns
+    (λ c κs. search undoing)  -- before-requires
+    (λ c κs. search undoing)  -- gone-after-requires
+    (λ c. search undoing)  -- returns-2
+    (λ c κs. search undoing)  -- gone-after-requires-2
+    (λ c. search undoing))  -- returns-3

@@ -8,10 +8,10 @@ unfolding linkWordAfter
 link-word-after-spec =
     tie.close
     (tie.spec
-    (λ c. search undoing) -- returns
-    (λ c κs. search undoing) -- has-next-requires
-    (λ c κs. search undoing) -- without-next-requires
-    (λ c. search undoing) -- returns-2
-    (λ c. search undoing) -- returns-3
-    (λ c. search undoing) -- returns-4
-    (λ c. search undoing)) -- returns-5
+    (λ c. search undoing)  -- returns
+    (λ c κs. search undoing)  -- has-next-requires
+    (λ c κs. search undoing)  -- without-next-requires
+    (λ c. search undoing)  -- returns-2
+    (λ c. search undoing)  -- returns-3
+    (λ c. search undoing)  -- returns-4
+    (λ c. search undoing))  -- returns-5

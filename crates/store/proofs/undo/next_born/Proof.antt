@@ -6,8 +6,8 @@ pub next-born-spec : {M : Type 1} → statement M
 next-born-spec =
     tie.close
     (tie.spec
-    (λ c κs. search undoing) -- next-page-requires
-    (λ c. search undoing) -- cast-mark
-    (λ c. search undoing) -- mul-mark
-    (λ c κs. search undoing) -- mark-requires
-    (λ c. search undoing)) -- returns
+    (λ c κs. search undoing)  -- next-page-requires
+    (λ c. search undoing)  -- cast-mark
+    (λ c. search undoing)  -- mul-mark
+    (λ c κs. search undoing)  -- mark-requires
+    (λ c. search undoing))  -- returns

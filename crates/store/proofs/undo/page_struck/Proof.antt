@@ -6,7 +6,7 @@ pub page-struck-spec : {M : Type 1} → statement M
 page-struck-spec =
     tie.close
     (tie.spec
-    (λ c κs. search undoing) -- word-requires
-    (λ c κs. search undoing) -- mark-requires
-    (λ c κs. search undoing) -- struck-requires
-    (λ c. search undoing)) -- returns
+    (λ c κs. search undoing)  -- word-requires
+    (λ c κs. search undoing)  -- mark-requires
+    (λ c κs. search undoing)  -- struck-requires
+    (λ c. search undoing))  -- returns

@@ -8,6 +8,6 @@ unfolding struck
 struck-spec =
     tie.close
     (tie.spec
-    (λ c. search undoing) -- returns
-    (λ c κs. search undoing) -- struck-by-requires
-    (λ c. search undoing)) -- returns-2
+    (λ c. search undoing)  -- returns
+    (λ c κs. search undoing)  -- struck-by-requires
+    (λ c. search undoing))  -- returns-2

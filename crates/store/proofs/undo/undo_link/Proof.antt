@@ -8,12 +8,12 @@ unfolding linkAfter
 undo-link-spec =
     tie.close
     (tie.spec
-    (λ c. search undoing) -- mul-a
-    (λ c κs. search undoing) -- page-struck-requires
-    (λ c κs. search undoing) -- word-requires
-    (λ c κs. search undoing) -- mark-requires
-    (λ c κs. search undoing) -- next-born-requires
-    (λ c κs. search undoing) -- link-word-after-requires
-    (λ c κs. search undoing) -- put-requires
-    (λ c. search undoing) -- same-length
-    (λ c. search undoing)) -- returns
+    (λ c. search undoing)  -- mul-a
+    (λ c κs. search undoing)  -- page-struck-requires
+    (λ c κs. search undoing)  -- word-requires
+    (λ c κs. search undoing)  -- mark-requires
+    (λ c κs. search undoing)  -- next-born-requires
+    (λ c κs. search undoing)  -- link-word-after-requires
+    (λ c κs. search undoing)  -- put-requires
+    (λ c. search undoing)  -- same-length
+    (λ c. search undoing))  -- returns

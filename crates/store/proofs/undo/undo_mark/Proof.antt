@@ -8,12 +8,12 @@ unfolding markAfter
 undo-mark-spec =
     tie.close
     (tie.spec
-    (λ c. search undoing) -- mul-a
-    (λ c κs. search undoing) -- word-requires
-    (λ c κs. search undoing) -- mark-requires
-    (λ c κs. search undoing) -- mark-requires-2
-    (λ c κs. search undoing) -- struck-requires
-    (λ c κs. search undoing) -- put-marks-requires
-    (λ c. search undoing) -- same-length
-    (λ c. search undoing) -- same-length-2
-    (λ c. search undoing)) -- returns
+    (λ c. search undoing)  -- mul-a
+    (λ c κs. search undoing)  -- word-requires
+    (λ c κs. search undoing)  -- mark-requires
+    (λ c κs. search undoing)  -- mark-requires-2
+    (λ c κs. search undoing)  -- struck-requires
+    (λ c κs. search undoing)  -- put-marks-requires
+    (λ c. search undoing)  -- same-length
+    (λ c. search undoing)  -- same-length-2
+    (λ c. search undoing))  -- returns
