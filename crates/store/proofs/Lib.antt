@@ -1,1 +1,4 @@
+pub mod Links
+pub mod Rows
+pub mod Sought
 pub mod Undoing
