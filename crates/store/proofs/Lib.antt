@@ -2,3 +2,4 @@ pub mod Links
 pub mod Rows
 pub mod Sought
 pub mod Undoing
+pub mod Copying
