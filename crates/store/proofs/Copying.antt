@@ -64,4 +64,4 @@ pub ruleset copying = (rows, yes-lt-by, no-lt-by, via-before, row-pushed, row-cu
 
 pub ruleset dropping = (needs, yes-lt-of, no-lt-of, via-before, row-dropped, row-cut, via-undone)
 
-pub ruleset killing = (rows, via-held, at-region, at-broken, at-sought, at-nowhere, via-undone)
+pub ruleset killing = (needs, via-held, at-region, at-broken, at-sought, at-nowhere, via-undone)

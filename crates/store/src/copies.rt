@@ -59,3 +59,20 @@ pub fn backtrack(heap: &mut [u64], tables: &mut [u64], born: &mut [u8], turned: 
     drop_row(tables, n, n - 1);
     plain(0)
 }
+
+// The present copy takes the number of the one that is cut, and its registers that row.
+pub fn cut(heap: &mut [u64], tables: &mut [u64], born: &mut [u8], turned: &mut [u8], first: u16, pages: u16) -> Answer
+    ensures answer { λ r. ⌜ r ≡ dropAnswer (now (tables .entry)) ⌝ }
+    ensures memory { λ _. ⌜ memory (now (heap .exit)) (now (born .exit)) (now (turned .exit)) ≡ cutMemory first pages (now (tables .entry)) (memory (now (heap .entry)) (now (born .entry)) (now (turned .entry))) ⌝ }
+    ensures tables { λ _. ⌜ now (tables .exit) ≡ cutTables (now (tables .entry)) ⌝ }
+{
+    let n = copy_number(tables);
+    if n < 2 {
+        return plain(9);
+    }
+    let last = n - 1;
+    undo(heap, born, turned, first, pages, Which::Marked(last), last, last);
+    copy_row(tables, n, last);
+    drop_row(tables, n, last);
+    plain(0)
+}
