@@ -7,13 +7,14 @@ use lib.ListN.{set}
 use Rattle.laws.specs.Pick.{pick}
 use borrow.Author.Needs.{needs}
 use Rattle.laws.proofs.Pick.{yes-lt, no-lt, yes-lt-of, no-lt-of}
+use Rattle.words.specs.declared.Ref.{Ref}
 use Rattle.words.specs.declared.Held.{Held}
 use Rattle.words.specs.declared.Held.the-variants.{Holds, Broken}
 use Rattle.words.specs.declared.Register.{Register}
-use Rattle.words.specs.declared.Register.the-variants.{Region}
+use Rattle.words.specs.declared.Register.the-variants.{Empty, Region, Term}
 use Rattle.words.specs.Words.{unpackRegister}
 use Rattle.store.specs.declared.Which.{Which}
-use Rattle.store.specs.Copies.{rowDropped, onRegion, heldIn}
+use Rattle.store.specs.Copies.{rowDropped, stampKilled, onRegion, heldIn}
 use Rattle.store.specs.Memory.{Memory}
 use Rattle.store.specs.Rows.{present, registerAt, rowCopied}
 use Rattle.store.specs.Undo.{undone}
@@ -51,17 +52,29 @@ via-undone first pages j j′ last last′ which which′ m x e p q r = rw (← 
 pub via-held : (t : List ℕ) (n a w : ℕ) (r : Held) → r ≡ unpackRegister 12 w → w ≡ registerAt t n a → n ≡ present t → r ≡ heldIn t a
 via-held t n a w r e p q = rw (← q, ← p) e
 
-module _ {A : Type 0} (r z : A) (k h : Held) (f : ℕ → A) (e : k ≡ h) where
-  pub at-region : (g : Register) (s : ℕ) → k ≡ Holds g → g ≡ Region s → r ≡ f s → r ≡ onRegion h f z
-  unfolding onRegion
-  at-region g s p q o = rw (← e, p, q) o
+pub via-killed : (first pages k n s : ℕ) (m x : Memory) → k ≡ n → x ≡ stampKilled first pages k s m → x ≡ stampKilled first pages n s m
+via-killed first pages k n s m x e p = rw (← e) p
 
+module _ {A : Type 0} (r z : A) (k h : Held) (f : ℕ → A) (e : k ≡ h) where
   pub at-broken : k ≡ Broken → r ≡ z → r ≡ onRegion h f z
   unfolding onRegion
   at-broken p o = rw (← e, p) o
+
+  module _ (g : Register) (p : k ≡ Holds g) where
+    pub at-region : (s : ℕ) → g ≡ Region s → r ≡ f s → r ≡ onRegion h f z
+    unfolding onRegion
+    at-region s q o = rw (← e, p, q) o
+
+    pub at-empty : g ≡ Empty → r ≡ z → r ≡ onRegion h f z
+    unfolding onRegion
+    at-empty q o = rw (← e, p, q) o
+
+    pub at-term : (c : Ref) → g ≡ Term c → r ≡ z → r ≡ onRegion h f z
+    unfolding onRegion
+    at-term c q o = rw (← e, p, q) o
 
 pub ruleset copying = (rows, yes-lt-by, no-lt-by, via-before, row-pushed, row-cut, row-dropped, via-undone)
 
 pub ruleset dropping = (needs, yes-lt-of, no-lt-of, via-before, row-dropped, row-cut, via-undone)
 
-pub ruleset killing = (needs, via-held, at-region, at-broken, at-sought, at-nowhere, via-undone)
+pub ruleset killing = (needs, via-held, at-broken, at-region, at-empty, at-term, at-sought, at-nowhere, via-killed)

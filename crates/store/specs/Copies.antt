@@ -61,21 +61,25 @@ cutTables t =
 
 -- ---- kill: the region in register a, if the present copy has it. The registers stay
 
--- by the stamp of the region that a register holds
+-- the region of stamp s
+unfoldable pub stampAnswer : ℕ → ℕ → ℕ → Memory → Answer
+stampAnswer first pages s m = onSought (livePage first pages (m .heap) (m .turned) s) (λ p. plain 0) (plain 3)
+
+unfoldable pub stampKilled : ℕ → ℕ → ℕ → ℕ → Memory → Memory
+stampKilled first pages n s m = onSought (livePage first pages (m .heap) (m .turned) s) (λ p. undone first pages (Stamped s) n n m) m
+
+-- what register a of the present copy holds; and by the stamp, if it holds a region
+abbrev pub heldIn : List ℕ → ℕ → Held
+heldIn t a = unpackRegister 12 (registerAt t (present t) a)
+
 unfoldable pub onRegion : {A : Type 0} → Held → (ℕ → A) → A → A
 onRegion (Holds Empty) f z = z
 onRegion (Holds (Region s)) f z = f s
 onRegion (Holds (Term r)) f z = z
 onRegion Broken f z = z
 
-abbrev pub heldIn : List ℕ → ℕ → Held
-heldIn t a = unpackRegister 12 (registerAt t (present t) a)
-
 unfoldable pub killAnswer : ℕ → ℕ → List ℕ → ℕ → Memory → Answer
-killAnswer first pages t a m =
-    onRegion (heldIn t a) (λ s. onSought (livePage first pages (m .heap) (m .turned) s) (λ p. plain 0) (plain 3)) (plain 3)
+killAnswer first pages t a m = onRegion (heldIn t a) (λ s. stampAnswer first pages s m) (plain 3)
 
 unfoldable pub killMemory : ℕ → ℕ → List ℕ → ℕ → Memory → Memory
-killMemory first pages t a m =
-    let n : ℕ = present t in
-    onRegion (heldIn t a) (λ s. onSought (livePage first pages (m .heap) (m .turned) s) (λ p. undone first pages (Stamped s) n n m) m) m
+killMemory first pages t a m = onRegion (heldIn t a) (λ s. stampKilled first pages (present t) s m) m

@@ -8,6 +8,7 @@ pub enum Which {
 
 pub mod cells;
 pub mod copies;
+pub mod kill;
 pub mod pages;
 pub mod references;
 pub mod registers;
