@@ -3,3 +3,5 @@ pub mod Rows
 pub mod Sought
 pub mod Undoing
 pub mod Copying
+pub mod Stores
+pub mod UndoPasses
