@@ -5,3 +5,4 @@ pub mod Undoing
 pub mod Copying
 pub mod Stores
 pub mod UndoPasses
+pub mod UndoWhole
