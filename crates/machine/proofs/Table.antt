@@ -4,7 +4,7 @@ use mathlib.Core.Bool.{true}
 use mathlib.Core.List.{List, [], _∷_, map}
 use Prim.Native.Nat.{ℕ, suc}
 use lib.ListN.{take}
-use lib.IntN.{pos, negsuc}
+use lib.IntN.{negsuc}
 use Rattle.words.specs.declared.Step.the-variants.{MakeRegion, KillRegion, MakeVar, Integer, Unify, Deref, PushChoice, Cut, Backtrack}
 use Rattle.words.specs.Steps.{stepWord}
 use Rattle.machine.specs.Copies.{Machine, document, opening}
