@@ -3,7 +3,6 @@
 use mathlib.Core.Path.{_≡_, refl, sym, ap, _∙_, subst}
 use mathlib.Core.Bool.{Bool, true, false}
 use mathlib.Core.Logic.{_≢_}
-use mathlib.Core.List.{[], _∷_}
 use Prim.Native.Nat.{ℕ, _-_, _≤_}
 use native.Mathlib.Omega.{arith}
 use lib.Dec.{eqb}
@@ -18,8 +17,7 @@ use Rattle.words.specs.declared.Register.the-variants.{Empty, Region, Te
 use Rattle.words.specs.declared.Held.{Held}
 use Rattle.words.specs.declared.Held.the-variants as Held
 use Rattle.words.specs.Fields.{bits, tagOf}
-use Rattle.words.specs.Integers.{intOf}
-use Rattle.words.specs.Words.{registerWord, heapWord, stampOf, refOf, linkOf, heapReading, wellFormed, unpackHeap, registerReading, unpackRegister}
+use Rattle.words.specs.Words.{registerWord, heapWord, stampOf, refOf, heapReading, wellFormed, unpackHeap, registerReading, unpackRegister}
 use Rattle.words.specs.Fit.{RefFits, CellFits, LinkFits, WordFits, RegisterFits}
 use Rattle.words.proofs.Fields.{bits-below}
 use Rattle.words.proofs.Unpacking.{heapReadings}

@@ -9,6 +9,6 @@ unfolding exactWord
 exactly-spec =
     tie.close
     (tie.spec
-    (λ c κs. search (needs, same, other)) -- pack-word-requires
-    (λ c. search (needs, same, other)) -- returns
-    (λ c. search (needs, same, other))) -- returns-2
+    (λ c κs. search (needs, same, other))  -- pack-word-requires
+    (λ c. search (needs, same, other))  -- returns
+    (λ c. search (needs, same, other)))  -- returns-2

@@ -9,6 +9,6 @@ unfolding exactRegister
 exactly-spec =
     tie.close
     (tie.spec
-    (λ c κs. search (needs, same, other)) -- pack-register-requires
-    (λ c. search (needs, same, other)) -- returns
-    (λ c. search (needs, same, other))) -- returns-2
+    (λ c κs. search (needs, same, other))  -- pack-register-requires
+    (λ c. search (needs, same, other))  -- returns
+    (λ c. search (needs, same, other)))  -- returns-2
