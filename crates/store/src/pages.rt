@@ -7,7 +7,8 @@ ghost use Rattle.laws.specs.Loops.{seek};
 ghost use Rattle.store.specs.Pages.{hasLink, isFree, lowestFree, newestPage, livePage, fill, freeCount, isLast, slotCount};
 use crate::cells;
 use laws::Sought;
-use words::heap::{STAMP_AT, TAG_AT};
+use words::heap::STAMP_AT;
+use words::heap::TAG_AT;
 
 // the bit of a link that says whether there is a next page
 const HAS_NEXT_AT: u64 = 134217728;
@@ -17,7 +18,11 @@ pub fn link(heap: &[u64], p: usize) -> u64
     ensures { λ r. ⌜ r ≡ getD (now (heap .entry)) (p * 16) 0 ⌝ }
 {
     let last = heap.len() / 16;
-    if p <= last { cells::word(heap, p * 16) } else { 0 }
+    if p <= last {
+        cells::word(heap, p * 16)
+    } else {
+        0
+    }
 }
 
 // The mark of that link.
@@ -25,7 +30,11 @@ pub fn link_mark(marks: &[u8], p: usize) -> u8
     ensures { λ r. ⌜ r ≡ getD (now (marks .entry)) (p * 16) 0 ⌝ }
 {
     let last = marks.len() / 16;
-    if p <= last { cells::mark(marks, p * 16) } else { 0 }
+    if p <= last {
+        cells::mark(marks, p * 16)
+    } else {
+        0
+    }
 }
 
 // The first page with this link word.
@@ -63,7 +72,11 @@ pub fn live_page(heap: &[u64], turned: &[u8], first: u16, pages: u16, stamp: u32
     let Sought::At(p) = newest_page(heap, first, pages, stamp) else {
         return Sought::Nowhere;
     };
-    if link_mark(turned, p) == 0 { Sought::At(p) } else { Sought::Nowhere }
+    if link_mark(turned, p) == 0 {
+        Sought::At(p)
+    } else {
+        Sought::Nowhere
+    }
 }
 
 // How many words of page p are filled, from word 1 on.
@@ -112,7 +125,11 @@ pub fn free_count(heap: &[u64], first: u16, pages: u16) -> usize
 pub fn is_last(w: u64) -> bool
     ensures { λ r. ⌜ r ≡ isLast w ⌝ }
 {
-    if w == 0 { false } else { w / HAS_NEXT_AT % 2 == 0 }
+    if w == 0 {
+        false
+    } else {
+        w / HAS_NEXT_AT % 2 == 0
+    }
 }
 
 fn ends_region(heap: &[u64], p: usize) -> bool

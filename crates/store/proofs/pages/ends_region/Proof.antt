@@ -6,6 +6,6 @@ pub ends-region-spec : {M : Type 1} → statement M
 ends-region-spec =
     tie.close
     (tie.spec
-    (λ c κs. search links) -- link-requires
-    (λ c κs. search links) -- is-last-requires
-    (λ c. search links)) -- returns
+    (λ c κs. search links)  -- link-requires
+    (λ c κs. search links)  -- is-last-requires
+    (λ c. search links))  -- returns

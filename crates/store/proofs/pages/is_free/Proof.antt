@@ -6,5 +6,5 @@ pub is-free-spec : {M : Type 1} → statement M
 is-free-spec =
     tie.close
     (tie.spec
-    (λ c κs. search laws) -- link-requires
-    (λ c. search laws)) -- returns
+    (λ c κs. search laws)  -- link-requires
+    (λ c. search laws))  -- returns

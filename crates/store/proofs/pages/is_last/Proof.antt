@@ -8,5 +8,5 @@ unfolding isLast
 is-last-spec =
     tie.close
     (tie.spec
-    (λ c. search laws) -- returns
-    (λ c. search laws)) -- returns-2
+    (λ c. search laws)  -- returns
+    (λ c. search laws))  -- returns-2

@@ -6,7 +6,7 @@ pub link-spec : {M : Type 1} → statement M
 link-spec =
     tie.close
     (tie.spec
-    (λ c. search links) -- mul-word
-    (λ c κs. search links) -- word-requires
-    (λ c. search links) -- returns
-    (λ c. search links)) -- returns-2
+    (λ c. search links)  -- mul-word
+    (λ c κs. search links)  -- word-requires
+    (λ c. search links)  -- returns
+    (λ c. search links))  -- returns-2

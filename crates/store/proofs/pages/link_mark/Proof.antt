@@ -6,7 +6,7 @@ pub link-mark-spec : {M : Type 1} → statement M
 link-mark-spec =
     tie.close
     (tie.spec
-    (λ c. search links) -- mul-mark
-    (λ c κs. search links) -- mark-requires
-    (λ c. search links) -- returns
-    (λ c. search links)) -- returns-2
+    (λ c. search links)  -- mul-mark
+    (λ c κs. search links)  -- mark-requires
+    (λ c. search links)  -- returns
+    (λ c. search links))  -- returns-2

@@ -20,14 +20,14 @@ slot-count-spec =
     (tie.spec
     Inv-loop
     μ-loop
-    (λ c. search counts) -- add-end
-    (λ c. search counts) -- loop-holds
-    (λ c κs. search counts) -- ends-region-requires
-    (λ c. search counts) -- add-slots
-    (λ c. search counts) -- add-p
-    (λ c. search counts) -- loop-less
-    (λ c. search counts) -- loop-again
-    (λ c. search counts) -- add-p-2
-    (λ c. search counts) -- loop-less-2
-    (λ c. search counts) -- loop-again-2
-    (λ c. search counts)) -- returns
+    (λ c. search counts)  -- add-end
+    (λ c. search counts)  -- loop-holds
+    (λ c κs. search counts)  -- ends-region-requires
+    (λ c. search counts)  -- add-slots
+    (λ c. search counts)  -- add-p
+    (λ c. search counts)  -- loop-less
+    (λ c. search counts)  -- loop-again
+    (λ c. search counts)  -- add-p-2
+    (λ c. search counts)  -- loop-less-2
+    (λ c. search counts)  -- loop-again-2
+    (λ c. search counts))  -- returns
