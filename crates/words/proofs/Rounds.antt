@@ -49,26 +49,8 @@ link-in k w false = bits-below 28 32 w
 reading-in : (k w : ℕ) → heapReading k w ≢ Word.Broken → wellFormed (heapReading k w) ≡ true → WordFits k (heapReading k w)
 unfolding heapReading WordFits CellFits wellFormed
 reading-in k w =
-    each-getD (λ (x : Word). x ≢ Word.Broken → wellFormed x ≡ true → WordFits k x) (heapReadings k w) Word.Broken (λ n f. absurd (n refl)) (
-      λ n f. tt,
-      (
-        λ n f. tt,
-        (
-          λ n f. ref-in k w,
-          (
-            λ n f. int-in (bits 28 32 w) (bits-below 28 32 w),
-            (
-              λ n f. (bits-below 44 16 w, leb-true (bits 40 4 w) 14 f),
-              (
-                λ n f. ref-in k w,
-                (λ n f. link-in k w (eqb (bits 27 1 w) 1), tt),
-              ),
-            ),
-          ),
-        ),
-      ),
-    )
-    (tagOf w)
+    each-getD (λ (x : Word). x ≢ Word.Broken → wellFormed x ≡ true → WordFits k x) (heapReadings k w) Word.Broken (λ n f. absurd (n refl))
+    (search (tt, ref-in, int-in, link-in, bits-below, leb-true)) (tagOf w)
 
 held-in : (k w : ℕ) (s t : Bool) → RegisterFits k (if s then Empty else if t then Region (stampOf w) else Term (refOf k w))
 unfolding RegisterFits

@@ -172,11 +172,12 @@ module _ (first n : ℕ) (s : Step) where
 
 pub ruleset ranges = (needs, in-range, past-31, arity-15)
 
--- the calls of a step's own function, one in the other
+-- ---- a call of what another call returned
+
 pub ranged : (first n : ℕ) (r x y : Step) → r ≡ inRange first n x → x ≡ y → r ≡ inRange first n y
 ranged first n r x y g e = g ∙ ap (inRange first n) e
 
 pub valued : (w d a : ℕ) (r : Step) (v u : ℤ) → r ≡ exactStep w (Integer d a v) → v ≡ u → r ≡ exactStep w (Integer d a u)
 valued w d a r v u g e = g ∙ ap (λ (z : ℤ). exactStep w (Integer d a z)) e
 
-pub ruleset said-by-parts = (needs, ranged, valued)
+pub ruleset in-turn = (needs, ranged, valued)

@@ -5,9 +5,10 @@ use mathlib.Core.Logic.{_≢_}
 use mathlib.Core.List.{List, [], _∷_}
 use Prim.Native.Nat.{ℕ, zero, suc, _≤_, _<_}
 use native.Mathlib.Omega.{arith}
-use lib.Dec.{eqb, leb}
+use lib.Dec.{eqb}
 use lib.ListN.{getD}
-use borrow.Author.Tests.{eq-eqb, ne-eqb, le-leb, lt-leb}
+use borrow.Author.Needs.{needs}
+use borrow.Author.Tests.{eq-eqb, ne-eqb}
 use Rattle.laws.specs.Base.{if_then_else_, Each}
 
 -- one test in another is both
@@ -39,13 +40,7 @@ module _ {A : Type 0} (x y : A) (m n w : ℕ) (e : n ≡ m) where
   pub other : (n ≡ w → ⊥) → y ≡ (if eqb m w then x else y)
   other h = rw (ne-eqb m w (λ q. h (e ∙ q)))
 
--- the code tests n ≤ m, as the definition does
-module _ {A : Type 0} (x y : A) (n m : ℕ) where
-  pub within : n ≤ m → x ≡ (if leb n m then x else y)
-  within h = rw (le-leb n m h)
-
-  pub beyond : m < n → y ≡ (if leb n m then x else y)
-  beyond h = rw (lt-leb n m h)
+pub ruleset choosing = (needs, same, other)
 
 -- one number more is ruled out
 pub past : (t j : ℕ) → (t ≡ j → ⊥) → j ≤ t → j < t

@@ -1,4 +1,4 @@
-use Rattle.words.proofs.StepCode.{said-by-parts}
+use Rattle.words.proofs.StepCode.{in-turn}
 use Rattle.words.proofs.steps.structure.Statement.{statement}
 use Rattle.words.proofs.steps.structure.Tie as tie
 
@@ -6,8 +6,8 @@ pub structure-spec : {M : Type 1} → statement M
 structure-spec =
     tie.close
     (tie.spec
-    (λ c. search said-by-parts)  -- cast-functor
-    (λ c. search said-by-parts)  -- cast-arity
-    (λ c κs. search said-by-parts)  -- exactly-requires
-    (λ c κs. search said-by-parts)  -- in-range-requires
-    (λ c. search said-by-parts))  -- returns
+    (λ c. search in-turn)  -- cast-functor
+    (λ c. search in-turn)  -- cast-arity
+    (λ c κs. search in-turn)  -- exactly-requires
+    (λ c κs. search in-turn)  -- in-range-requires
+    (λ c. search in-turn))  -- returns
