@@ -19,11 +19,6 @@ pub the-table : allHold cases ≡ true
 unfolding opened cases
 the-table = refl
 
--- step 6 of the worked run is this word
-pub step-6 : stepWord (Unify 1 3 1) ≡ 0x6004600200000000
-unfolding opened
-step-6 = refl
-
 -- ---- demand 3 on two runs: 0 for a step that stays, 1 + n for a stretch struck with n regions in it
 
 abbrev places : List Item → List ℕ

@@ -21,7 +21,8 @@ use Rattle.words.specs.Words.{registerWord, heapWord, stampOf, refOf, he
 use Rattle.words.specs.Fit.{RefFits, CellFits, LinkFits, WordFits, RegisterFits}
 use Rattle.words.proofs.Fields.{bits-below}
 use Rattle.words.proofs.Unpacking.{heapReadings}
-use Rattle.words.proofs.Tests.{passed, passed-both, each-getD}
+use Rattle.laws.proofs.Lists.{each-getD}
+use Rattle.words.proofs.Tests.{passed, passed-both}
 use Rattle.words.proofs.Ints.{int-in}
 use Rattle.words.proofs.Back.{heap-back, register-back}
 
@@ -49,8 +50,8 @@ link-in k w false = bits-below 28 32 w
 reading-in : (k w : ℕ) → heapReading k w ≢ Word.Broken → wellFormed (heapReading k w) ≡ true → WordFits k (heapReading k w)
 unfolding heapReading WordFits CellFits wellFormed
 reading-in k w =
-    each-getD (λ (x : Word). x ≢ Word.Broken → wellFormed x ≡ true → WordFits k x) (heapReadings k w) Word.Broken (λ n f. absurd (n refl))
-    (search (tt, ref-in, int-in, link-in, bits-below, leb-true)) (tagOf w)
+    each-getD (λ (x : Word). x ≢ Word.Broken → wellFormed x ≡ true → WordFits k x) (heapReadings k w) (tagOf w) Word.Broken
+    (search (tt, ref-in, int-in, link-in, bits-below, leb-true)) (λ n f. absurd (n refl))
 
 held-in : (k w : ℕ) (s t : Bool) → RegisterFits k (if s then Empty else if t then Region (stampOf w) else Term (refOf k w))
 unfolding RegisterFits

@@ -16,7 +16,8 @@ use Rattle.words.specs.Steps.{fields, shape, stepWord, reading, fits, de
 use Rattle.words.specs.Fit.{StepFits}
 use Rattle.words.proofs.Fields.{bits-at, bits-below}
 use Rattle.words.proofs.Ints.{int-bits, int-below, int-in}
-use Rattle.words.proofs.Tests.{passed-both, each-getD}
+use Rattle.laws.proofs.Lists.{each-getD}
+use Rattle.words.proofs.Tests.{passed-both}
 
 -- ---- the fields that every step has
 abbrev Frame : ℕ → ℕ → ℕ → ℕ → ℕ → Type 0
@@ -111,7 +112,7 @@ readings w =
 pub reading-in : (w : ℕ) → (reading w ≡ Refused) ⊎ StepFits (reading w)
 unfolding reading StepFits
 reading-in w =
-    each-getD (λ (s : Step). (s ≡ Refused) ⊎ StepFits s) (readings w) Refused (inl refl) (search (inr, inl, tt, bits-below, int-in) depth 20) (bits 60 4 w)
+    each-getD (λ (s : Step). (s ≡ Refused) ⊎ StepFits s) (readings w) (bits 60 4 w) Refused (search (inr, inl, tt, bits-below, int-in) depth 20) (inl refl)
 
 -- a legal step is decoded from its word
 pub decode-round : (s : Step) → StepFits s → fits s ≡ true → decode (stepWord s) ≡ s
