@@ -1,3 +1,5 @@
 pub mod Links
 pub mod Rows
 pub mod Sought
+pub mod Undoing
+pub mod Copying

@@ -7,6 +7,8 @@ pub enum Which {
 }
 
 pub mod cells;
+pub mod copies;
 pub mod pages;
 pub mod references;
 pub mod registers;
+pub mod undo;
