@@ -8,3 +8,5 @@ pub enum Which {
 
 pub mod cells;
 pub mod pages;
+pub mod references;
+pub mod registers;
