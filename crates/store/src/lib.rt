@@ -10,3 +10,4 @@ pub mod cells;
 pub mod pages;
 pub mod references;
 pub mod registers;
+pub mod make;
