@@ -1,0 +1,3 @@
+// Terms in the lent memory.
+
+pub mod build;
