@@ -3,9 +3,11 @@
 ghost use mathlib.Core.Path.{_≡_};
 ghost use Prim.Native.Nat.{_*_};
 ghost use lib.ListN.{getD};
-ghost use Rattle.store.specs.Pages.{lowestFree};
+ghost use Rattle.laws.specs.Loops.{seek};
+ghost use Rattle.store.specs.Pages.{hasLink, lowestFree, newestPage, livePage, fill, freeCount, isLast, slotCount};
 use crate::cells;
 use laws::Sought;
+use words::heap::{STAMP_AT, TAG_AT};
 
 // The link word of page p. A page past the end has none, and for it p * 16 might not fit a usize.
 pub fn link(heap: &[u64], p: usize) -> u64
@@ -23,16 +25,76 @@ pub fn link_mark(marks: &[u8], p: usize) -> u8
     if p <= last { cells::mark(marks, p * 16) } else { 0 }
 }
 
-pub fn lowest_free(heap: &[u64], first: u16, pages: u16) -> Sought
-    ensures { λ r. ⌜ r ≡ lowestFree first pages (now (heap .entry)) ⌝ }
+// The first page with this link word.
+fn first_with(heap: &[u64], first: u16, pages: u16, w: u64) -> Sought
+    ensures { λ r. ⌜ r ≡ seek (hasLink (now (heap .entry)) w) pages first ⌝ }
 {
     let mut p = first as usize;
     let end = p + pages as usize;
     while p < end {
-        if link(heap, p) == 0 {
+        if link(heap, p) == w {
             return Sought::At(p);
         }
         p += 1;
     }
     Sought::Nowhere
+}
+
+pub fn lowest_free(heap: &[u64], first: u16, pages: u16) -> Sought
+    ensures { λ r. ⌜ r ≡ lowestFree first pages (now (heap .entry)) ⌝ }
+{
+    first_with(heap, first, pages, 0)
+}
+
+// The newest page of the region of a stamp: the one page whose link has this stamp and no next page.
+pub fn newest_page(heap: &[u64], first: u16, pages: u16, stamp: u32) -> Sought
+    ensures { λ r. ⌜ r ≡ newestPage first pages (now (heap .entry)) stamp ⌝ }
+{
+    first_with(heap, first, pages, 6 * TAG_AT + stamp as u64 * STAMP_AT)
+}
+
+// The same, if the present copy has the region.
+pub fn live_page(heap: &[u64], turned: &[u8], first: u16, pages: u16, stamp: u32) -> Sought
+    ensures { λ r. ⌜ r ≡ livePage first pages (now (heap .entry)) (now (turned .entry)) stamp ⌝ }
+{
+    let Sought::At(p) = newest_page(heap, first, pages, stamp) else {
+        return Sought::Nowhere;
+    };
+    if link_mark(turned, p) == 0 { Sought::At(p) } else { Sought::Nowhere }
+}
+
+// How many words of page p are filled, from word 1 on.
+pub fn fill(heap: &[u64], p: usize) -> usize
+    ensures { λ r. ⌜ r ≡ fill (now (heap .entry)) p ⌝ }
+{
+    let last = heap.len() / 16;
+    if last < p {
+        return 0;
+    }
+    let start = p * 16 + 1;
+    let mut i = 0;
+    while i < 15 {
+        if cells::word(heap, start + i) == 0 {
+            return i;
+        }
+        i += 1;
+    }
+    i
+}
+
+pub fn free_count(heap: &[u64], first: u16, pages: u16) -> usize
+    ensures { λ r. ⌜ r ≡ freeCount first pages (now (heap .entry)) ⌝ }
+{
+    let mut p = first as usize;
+    let end = p + pages as usize;
+    let mut free: usize = 0;
+    while p < end {
+        if link(heap, p) == 0 {
+            free += 1;
+            p += 1;
+            continue;
+        }
+        p += 1;
+    }
+    free
 }

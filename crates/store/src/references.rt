@@ -5,10 +5,10 @@ ghost use Prim.Native.Nat.{_*_, _/_, _^_};
 ghost use lib.ListN.{getD};
 ghost use Rattle.store.specs.Pages.{pageOf, liveRef};
 use crate::pages;
+use words::heap::STAMP_AT;
 use words::Ref;
 
-// the lowest bit of a link's stamp, and tag 6 above the 32 bits of a stamp
-const STAMP_AT: u64 = 268435456;
+// tag 6, a link's, above the 32 bits of a stamp
 const LINK_TAG: u64 = 25769803776;
 
 // The tag and the stamp of page p's link, as one number.
