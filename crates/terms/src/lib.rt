@@ -1,0 +1,3 @@
+// Terms in the lent memory: following a reference, unification.
+
+pub mod deref;
