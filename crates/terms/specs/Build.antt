@@ -17,3 +17,15 @@ use Rattle.store.specs.Make.{pageStarted}
 -- page q joins the list after page p
 unfoldable pub pageJoined : ℕ → ℕ → ℕ → ℕ → Memory → Memory
 pageJoined n p s q m = nextAt (p * 16) (linkWord 12 s (some (q % 2 ^ 16))) (pageStarted n q s m)
+
+-- the address of a term's first word: after the last filled word of page p if the term fits in the 15 words there, otherwise on the lowest free page
+unfoldable pub placeOf : ℕ → ℕ → ℕ → List ℕ → List ℕ → Sought
+placeOf first pages p ws h =
+    pick (leb (fill h p + length ws) 15) (At (p * 16 + fill h p + 1))
+    (onSought (lowestFree first pages h) (λ q. At (q * 16 + 1)) Nowhere)
+
+-- the memory with the term there; without a page nothing changes
+unfoldable pub placed : ℕ → ℕ → ℕ → ℕ → ℕ → List ℕ → Memory → Memory
+placed first pages n p s ws m =
+    pick (leb (fill (m .heap) p + length ws) 15) (fillAll n (p * 16 + fill (m .heap) p + 1) ws m)
+    (onSought (lowestFree first pages (m .heap)) (λ q. fillAll n (q * 16 + 1) ws (pageJoined n p s q m)) m)
