@@ -1,3 +1,5 @@
 pub mod Filling
 pub mod Following
 pub mod Placing
+pub mod FoundWords
+pub mod Operands

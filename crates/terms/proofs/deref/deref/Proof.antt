@@ -16,18 +16,18 @@ deref-spec =
     (tie.spec
     Inv-loop
     μ-loop
-    (λ c. search following) -- loop-holds
-    (λ c κs. search following) -- live-requires
-    (λ c. search following) -- cast-a
-    (λ c κs. search following) -- word-requires
-    (λ c κs. search following) -- unpack-heap-requires
-    (λ c. search following) -- enum-known-w
-    (λ c. search following) -- returns
-    (λ c. search following) -- enum-known-c
-    (λ c κs. search following) -- ends-at-requires
-    (λ c. search following) -- returns-2
-    (λ c. search following) -- sub-fuel
-    (λ c. search following) -- loop-less
-    (λ c. search following) -- loop-again
-    (λ c. search following) -- returns-3
-    (λ c. search following)) -- returns-4
+    (λ c. search following)  -- loop-holds
+    (λ c κs. search following)  -- live-requires
+    (λ c. search following)  -- cast-a
+    (λ c κs. search following)  -- word-requires
+    (λ c κs. search following)  -- unpack-heap-requires
+    (λ c. search following)  -- enum-known-w
+    (λ c. search following)  -- returns
+    (λ c. search following)  -- enum-known-c
+    (λ c κs. search following)  -- ends-at-requires
+    (λ c. search following)  -- returns-2
+    (λ c. search following)  -- sub-fuel
+    (λ c. search following)  -- loop-less
+    (λ c. search following)  -- loop-again
+    (λ c. search following)  -- returns-3
+    (λ c. search following))  -- returns-4

@@ -6,5 +6,5 @@ pub ends-at-spec : {M : Type 1} → statement M
 ends-at-spec =
     tie.close
     (tie.spec
-    (λ c. search following) -- returns
-    (λ c. search following)) -- returns-2
+    (λ c. search following)  -- returns
+    (λ c. search following))  -- returns-2
