@@ -1,4 +1,4 @@
--- Op 1, makeregion, over the lent memory.
+-- Op 1, makeregion, over the lent memory: what it answers, and the tables and the memory after it.
 use mathlib.Core.List.{List, []}
 use mathlib.Core.Option.{none}
 use Prim.Native.Nat.{ℕ, _+_, _*_, _%_, _^_}
@@ -8,18 +8,17 @@ use Rattle.laws.specs.Pick.{pick}
 use Rattle.words.specs.declared.Register.the-variants.{Region}
 use Rattle.words.specs.declared.Answer.{Answer}
 use Rattle.words.specs.Words.{linkWord, registerWord}
-use Rattle.machine.specs.Tables.{Lent}
+use Rattle.words.specs.Answers.{plain}
 use Rattle.machine.specs.Run.{lastStamp}
 use Rattle.store.specs.Pages.{lowestFree, slotCount, onSought}
 use Rattle.store.specs.Rows.{present, registerSet}
 use Rattle.store.specs.Memory.{Memory, memory, fillAt}
-use Rattle.store.specs.Outcome.{Outcome, outcome, refused, memoryOf, withTables}
 
--- what filling words needs of the memory: the turned marks take no part
+-- the heap and its born marks, all that filling words needs: the turned marks take no part
 abbrev pub unturned : List ℕ → List ℕ → Memory
 unturned h b = memory h b []
 
--- a page becomes a region's newest: its link has no next page
+-- page p becomes the newest page of the region of stamp s, in copy n: its link has no next page
 unfoldable pub pageStarted : ℕ → ℕ → ℕ → Memory → Memory
 pageStarted n p s m = fillAt n (p * 16) (linkWord 12 s none) m
 
@@ -31,16 +30,21 @@ nextStamp t = getD t 0 0 % 2 ^ 32
 unfoldable pub regionNoted : ℕ → ℕ → ℕ → List ℕ → List ℕ
 regionNoted n d s t = set (registerSet t n d (registerWord 12 (Region s))) 0 (s + 1)
 
+-- makeregion is refused with 7, then 6, then 5; else the region has the lowest free page
+unfoldable pub onMake : {A : Type 0} → ℕ → ℕ → ℕ → List ℕ → List ℕ → (ℕ → A) → (ℕ → A) → A
+onMake first pages slots t h refused made =
+    pick (eqb (nextStamp t) lastStamp) (refused 7)
+    (pick (leb slots (slotCount first pages h)) (refused 6)
+    (onSought (lowestFree first pages h) made (refused 5)))
+
 abbrev pub stampGiven : ℕ → Answer
 stampGiven s = record { status = 0; kind = 0; pairs = 0; payload = s }
 
--- the region of stamp s starts with page p, in copy n
-unfoldable pub regionMade : ℕ → ℕ → ℕ → ℕ → Lent → Outcome
-regionMade n d s p l = outcome (stampGiven s) (withTables (pageStarted n p s (memoryOf l)) (regionNoted n d s (l .tables)))
+unfoldable pub makeAnswer : ℕ → ℕ → ℕ → List ℕ → List ℕ → Answer
+makeAnswer first pages slots t h = onMake first pages slots t h (λ s. plain s) (λ p. stampGiven (nextStamp t))
 
--- 7, then 6, then 5
-unfoldable pub makeRegion : ℕ → ℕ → ℕ → ℕ → Lent → Outcome
-makeRegion first pages slots d l =
-    pick (eqb (nextStamp (l .tables)) lastStamp) (refused 7 l)
-    (pick (leb slots (slotCount first pages (l .heap))) (refused 6 l)
-    (onSought (lowestFree first pages (l .heap)) (λ p. regionMade (present (l .tables)) d (nextStamp (l .tables)) p l) (refused 5 l)))
+unfoldable pub makeTables : ℕ → ℕ → ℕ → ℕ → List ℕ → List ℕ → List ℕ
+makeTables first pages slots d t h = onMake first pages slots t h (λ s. t) (λ p. regionNoted (present t) d (nextStamp t) t)
+
+unfoldable pub makeMemory : ℕ → ℕ → ℕ → List ℕ → Memory → Memory
+makeMemory first pages slots t m = onMake first pages slots t (m .heap) (λ s. m) (λ p. pageStarted (present t) p (nextStamp t) m)

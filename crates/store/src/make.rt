@@ -2,13 +2,17 @@
 
 ghost use mathlib.Core.Path.{_≡_};
 ghost use Rattle.store.specs.Memory.{fillAt};
-ghost use Rattle.store.specs.Make.{unturned, pageStarted, nextStamp, regionNoted};
+ghost use Rattle.store.specs.Make.{unturned, pageStarted, nextStamp, regionNoted, makeAnswer, makeTables, makeMemory};
 use crate::cells;
+use crate::pages;
 use crate::registers;
-use words::heap;
+use laws::Sought;
+use words::heap::pack_link;
 use words::registers::pack_register;
-use words::Link;
-use words::Register;
+use words::{Answer, Link, Register};
+
+// The next stamp that no region is given.
+const LAST_STAMP: u32 = 4294967295;
 
 // A word is filled in the present copy, n.
 pub fn fill_at(heap: &mut [u64], born: &mut [u8], n: u8, a: usize, w: u64)
@@ -22,7 +26,7 @@ pub fn fill_at(heap: &mut [u64], born: &mut [u8], n: u8, a: usize, w: u64)
 pub fn start_page(heap: &mut [u64], born: &mut [u8], n: u8, p: u32, stamp: u32)
     ensures { λ _. ⌜ unturned (now (heap .exit)) (now (born .exit)) ≡ pageStarted n p stamp (unturned (now (heap .entry)) (now (born .entry))) ⌝ }
 {
-    let w = heap::pack_link(Link::Last { stamp });
+    let w = pack_link(Link::Last { stamp });
     fill_at(heap, born, n, p as usize * 16, w);
 }
 
@@ -38,4 +42,26 @@ fn note_region(tables: &mut [u64], n: u8, d: u8, stamp: u32)
 {
     registers::set_register(tables, n, d, pack_register(Register::Region(stamp)));
     cells::put(tables, 0, stamp as u64 + 1);
+}
+
+pub fn make_region(heap: &mut [u64], tables: &mut [u64], born: &mut [u8], first: u16, pages: u16, slots: u16, d: u8) -> Answer
+    ensures answer { λ r. ⌜ r ≡ makeAnswer first pages slots (now (tables .entry)) (now (heap .entry)) ⌝ }
+    ensures tables { λ _. ⌜ now (tables .exit) ≡ makeTables first pages slots d (now (tables .entry)) (now (heap .entry)) ⌝ }
+    ensures memory { λ _. ⌜ unturned (now (heap .exit)) (now (born .exit)) ≡ makeMemory first pages slots (now (tables .entry)) (unturned (now (heap .entry)) (now (born .entry))) ⌝ }
+{
+    let stamp = next_stamp(tables);
+    if stamp == LAST_STAMP {
+        return Answer { status: 7, kind: 0, pairs: 0, payload: 0 };
+    }
+    let taken = pages::slot_count(heap, first, pages);
+    if slots as usize <= taken {
+        return Answer { status: 6, kind: 0, pairs: 0, payload: 0 };
+    }
+    let Sought::At(p) = pages::lowest_free(heap, first, pages) else {
+        return Answer { status: 5, kind: 0, pairs: 0, payload: 0 };
+    };
+    let n = registers::copy_number(tables);
+    start_page(heap, born, n, p as u32, stamp);
+    note_region(tables, n, d, stamp);
+    Answer { status: 0, kind: 0, pairs: 0, payload: stamp }
 }
