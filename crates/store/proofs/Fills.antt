@@ -25,4 +25,4 @@ module _ (s w : ℕ) where
   unfolding heapWord
   joined-link next e = e
 
-pub ruleset fills = (laws, memory-is, via-fill, last-link, joined-link)
+pub ruleset stores = (laws, memory-is, via-fill, last-link, joined-link)

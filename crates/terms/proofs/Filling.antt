@@ -8,7 +8,7 @@ use native.Mathlib.Numerals.{add-one}
 use lib.ListN.{length, getD, set, drop, drop-of-length-le}
 use lib.Seq.{drop-cons}
 use Rattle.store.specs.Memory.{Memory, memory, fillAt, fillAll, nextAt}
-use Rattle.store.proofs.Fills.{fills}
+use Rattle.store.proofs.Fills.{stores}
 
 -- before turn i the words from i on are left to fill
 pub record Filling (n a : ℕ) (ws : List ℕ) (i : ℕ) (m₀ m : Memory) : Type 0 where
@@ -36,4 +36,4 @@ pub via-next : (h x b u : List ℕ) (m : Memory) (a w w′ : ℕ) → x ≡ set 
 unfolding nextAt
 via-next h x b u m a w w′ e p q = rw (← p, e, q)
 
-pub ruleset filling = (fills, filling-starts, filling-on, filling-ends, via-next)
+pub ruleset filling = (stores, filling-starts, filling-on, filling-ends, via-next)

@@ -1,5 +1,5 @@
 use Rattle.store.specs.Memory.{fillAt}
-use Rattle.store.proofs.Fills.{fills}
+use Rattle.store.proofs.Fills.{stores}
 use Rattle.store.proofs.make.fill_at.Statement.{statement}
 use Rattle.store.proofs.make.fill_at.Tie as tie
 
@@ -8,8 +8,8 @@ unfolding fillAt
 fill-at-spec =
     tie.close
     (tie.spec
-    (λ c κs. search fills) -- put-requires
-    (λ c κs. search fills) -- set-mark-requires
-    (λ c. search fills) -- same-length
-    (λ c. search fills) -- same-length-2
-    (λ c. search fills)) -- returns
+    (λ c κs. search stores) -- put-requires
+    (λ c κs. search stores) -- set-mark-requires
+    (λ c. search stores) -- same-length
+    (λ c. search stores) -- same-length-2
+    (λ c. search stores)) -- returns

@@ -1,5 +1,5 @@
 use Rattle.store.specs.Make.{pageStarted}
-use Rattle.store.proofs.Fills.{fills}
+use Rattle.store.proofs.Fills.{stores}
 use Rattle.store.proofs.make.start_page.Statement.{statement}
 use Rattle.store.proofs.make.start_page.Tie as tie
 
@@ -8,9 +8,9 @@ unfolding pageStarted
 start-page-spec =
     tie.close
     (tie.spec
-    (λ c κs. search fills) -- pack-link-requires
-    (λ c. search fills) -- mul-fill-at
-    (λ c κs. search fills) -- fill-at-requires
-    (λ c. search fills) -- same-length
-    (λ c. search fills) -- same-length-2
-    (λ c. search fills)) -- returns
+    (λ c κs. search stores) -- pack-link-requires
+    (λ c. search stores) -- mul-fill-at
+    (λ c κs. search stores) -- fill-at-requires
+    (λ c. search stores) -- same-length
+    (λ c. search stores) -- same-length-2
+    (λ c. search stores)) -- returns
