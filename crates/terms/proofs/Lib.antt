@@ -3,3 +3,4 @@ pub mod Following
 pub mod Placing
 pub mod FoundWords
 pub mod Operands
+pub mod Building
