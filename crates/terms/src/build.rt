@@ -103,3 +103,40 @@ fn home_of(heap: &[u64], tables: &[u64], turned: &[u8], first: u16, pages: u16, 
     };
     Home::Newest { page: p as u32, stamp }
 }
+
+// A term goes into the region in register a. Whether it is good is known before, and is told after the region was looked for.
+fn build(heap: &mut [u64], tables: &mut [u64], born: &mut [u8], turned: &[u8], first: u16, pages: u16, d: u8, a: u8, good: bool, term: &[u64]) -> Answer
+    ensures answer { λ r. ⌜ r ≡ buildAnswer first pages a good (now (term .entry)) (now (heap .entry)) (now (tables .entry)) (now (turned .entry)) ⌝ }
+    ensures tables { λ _. ⌜ now (tables .exit) ≡ buildTables first pages d a good (now (term .entry)) (now (heap .entry)) (now (tables .entry)) (now (turned .entry)) ⌝ }
+    ensures memory { λ _. ⌜ memory (now (heap .exit)) (now (born .exit)) (now (turned .entry)) ≡ buildMemory first pages a good (now (term .entry)) (now (tables .entry)) (memory (now (heap .entry)) (now (born .entry)) (now (turned .entry))) ⌝ }
+{
+    let Home::Newest { page, stamp } = home_of(heap, tables, turned, first, pages, a) else {
+        return Answer { status: 3, kind: 0, pairs: 0, payload: 0 };
+    };
+    if good {
+        let n = registers::copy_number(tables);
+        put_term(heap, tables, born, first, pages, n, d, page, stamp, term)
+    } else {
+        Answer { status: 4, kind: 0, pairs: 0, payload: 0 }
+    }
+}
+
+// Op 3.
+pub fn make_var(heap: &mut [u64], tables: &mut [u64], born: &mut [u8], turned: &[u8], first: u16, pages: u16, d: u8, a: u8) -> Answer
+    ensures answer { λ r. ⌜ r ≡ buildAnswer first pages a true variableWords (now (heap .entry)) (now (tables .entry)) (now (turned .entry)) ⌝ }
+    ensures tables { λ _. ⌜ now (tables .exit) ≡ buildTables first pages d a true variableWords (now (heap .entry)) (now (tables .entry)) (now (turned .entry)) ⌝ }
+    ensures memory { λ _. ⌜ memory (now (heap .exit)) (now (born .exit)) (now (turned .entry)) ≡ buildMemory first pages a true variableWords (now (tables .entry)) (memory (now (heap .entry)) (now (born .entry)) (now (turned .entry))) ⌝ }
+{
+    let term = [pack_cell(Cell::Unbound)];
+    build(heap, tables, born, turned, first, pages, d, a, true, &term)
+}
+
+// Op 4.
+pub fn integer(heap: &mut [u64], tables: &mut [u64], born: &mut [u8], turned: &[u8], first: u16, pages: u16, d: u8, a: u8, value: i32) -> Answer
+    ensures answer { λ r. ⌜ r ≡ buildAnswer first pages a true (integerWords value) (now (heap .entry)) (now (tables .entry)) (now (turned .entry)) ⌝ }
+    ensures tables { λ _. ⌜ now (tables .exit) ≡ buildTables first pages d a true (integerWords value) (now (heap .entry)) (now (tables .entry)) (now (turned .entry)) ⌝ }
+    ensures memory { λ _. ⌜ memory (now (heap .exit)) (now (born .exit)) (now (turned .entry)) ≡ buildMemory first pages a true (integerWords value) (now (tables .entry)) (memory (now (heap .entry)) (now (born .entry)) (now (turned .entry))) ⌝ }
+{
+    let term = [pack_cell(Cell::Int(value))];
+    build(heap, tables, born, turned, first, pages, d, a, true, &term)
+}
