@@ -12,3 +12,4 @@ pub mod pages;
 pub mod references;
 pub mod registers;
 pub mod undo;
+pub mod make;

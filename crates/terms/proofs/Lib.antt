@@ -1,0 +1,6 @@
+pub mod Filling
+pub mod Following
+pub mod Placing
+pub mod FoundWords
+pub mod Operands
+pub mod Building
