@@ -1,3 +1,4 @@
 pub mod Following
 pub mod FoundWords
 pub mod Operands
+pub mod Meeting

@@ -1,1 +1,3 @@
 pub mod Deref
+pub mod Unify
+pub mod Took
