@@ -2,3 +2,5 @@ pub mod Following
 pub mod FoundWords
 pub mod Operands
 pub mod Meeting
+pub mod Named
+pub mod Cycle

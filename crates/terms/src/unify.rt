@@ -123,3 +123,96 @@ fn look(heap: &[u64], turned: &[u8], l: Ref, r: Ref) -> Taken
     }
     meet(p, v, q, w)
 }
+
+// An entry of the trail: the variable that is bound, and the mark that it had.
+fn note(trail: &mut [u32], k: u16, address: u16, mark: u8)
+    ensures { λ _. ⌜ now (trail .exit) ≡ set (now (trail .entry)) k (entryOf address mark) ⌝ }
+{
+    let i = k as usize;
+    if i < trail.len() {
+        trail[i] = address as u32 + mark as u32 * 65536;
+    }
+}
+
+// The variable at r is bound to the cell at s, in the present copy, n.
+fn bind(heap: &mut [u64], turned: &mut [u8], trail: &mut [u32], n: u8, r: Ref, s: Ref, p: Progress) -> Progress
+    ensures { λ q. ⌜ BoundTo n r s (p .bound) (p .left) (now (heap .entry)) (now (turned .entry)) (now (trail .entry)) (q .status) (q .bound) (q .left) (now (heap .exit)) (now (turned .exit)) (now (trail .exit)) ⌝ }
+{
+    let address = r.address;
+    let a = address as usize;
+    let mark = cells::mark(turned, a);
+    note(trail, p.bound, address, mark);
+    cells::put(heap, a, pack_cell(Cell::Bound(s)));
+    cells::set_mark(turned, a, n);
+    Progress {
+        status: 0,
+        bound: ((p.bound as u32 + 1) % 65536) as u16,
+        left: p.left,
+    }
+}
+
+// The reference in argument number k of the structure whose head is at a.
+fn argument(heap: &[u64], a: u16, k: u8) -> Ref
+    ensures { λ r. ⌜ r ≡ refOf 12 (getD (now (heap .entry)) (a + (k + 1)) 0) ⌝ }
+{
+    reference(cells::word(heap, a as usize + (k as usize + 1)))
+}
+
+// One pair is taken: if the budget's number has been taken already, it stops with 10; else the pair is counted.
+fn take_pair(heap: &mut [u64], turned: &mut [u8], trail: &mut [u32], n: u8, l: Ref, r: Ref, p: Progress) -> Progress
+    requires { ⌜ (p .bound + p .left ≤ 4096) × (4096 ≤ length (now trail)) ⌝ }
+    ensures { λ q. ⌜ Took n (refs l r ∷ []) (p .bound) (p .left) (now (heap .entry)) (now (turned .entry)) (now (trail .entry)) (q .status) (q .bound) (q .left) (now (heap .exit)) (now (turned .exit)) (now (trail .exit)) ⌝ }
+{
+    let left = p.left;
+    if left == 0 {
+        return Progress {
+            status: 10,
+            bound: p.bound,
+            left: 0,
+        };
+    }
+    let q = Progress {
+        status: 0,
+        bound: p.bound,
+        left: left - 1,
+    };
+    let x = look(heap, turned, l, r);
+    match x {
+        Taken::Died => Progress {
+            status: 4,
+            bound: q.bound,
+            left: q.left,
+        },
+        Taken::Differ => Progress {
+            status: 1,
+            bound: q.bound,
+            left: q.left,
+        },
+        Taken::Same => q,
+        Taken::Bind(s, t) => bind(heap, turned, trail, n, s, t, q),
+        Taken::Arguments(a, b, m) => walk_args(heap, turned, trail, n, a, b, 0, m, q),
+    }
+}
+
+// The pairs of arguments from number i on are taken, of the structures whose heads are at a and b; each has m arguments.
+fn walk_args(heap: &mut [u64], turned: &mut [u8], trail: &mut [u32], n: u8, a: u16, b: u16, i: u8, m: u8, p: Progress) -> Progress
+    requires { ⌜ (p .bound + p .left ≤ 4096) × (4096 ≤ length (now trail)) ⌝ }
+    ensures { λ q. ⌜ Took n (argItems a b i (m - i)) (p .bound) (p .left) (now (heap .entry)) (now (turned .entry)) (now (trail .entry)) (q .status) (q .bound) (q .left) (now (heap .exit)) (now (turned .exit)) (now (trail .exit)) ⌝ }
+{
+    if i < m {
+        let next = i + 1;
+        let l = argument(heap, a, i);
+        let r = argument(heap, b, i);
+        let q = take_pair(heap, turned, trail, n, l, r, p);
+        if q.status != 0 {
+            return q;
+        }
+        walk_args(heap, turned, trail, n, a, b, next, m, q)
+    } else {
+        Progress {
+            status: 0,
+            bound: p.bound,
+            left: p.left,
+        }
+    }
+}
