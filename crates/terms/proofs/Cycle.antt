@@ -107,7 +107,7 @@ module _ (n : ℕ) (l r : Ref) (k left : ℕ) (h u t : List ℕ) (x : Taken) (so
         falls = omega (arith, d .rest);
         room = omega (arith, d .rest, ek);
         long = ap length (d .trail) ∙ length-set t k entry;
-        heap = rw (d .heap, d .trail, ek) (undo-bind wordBack k (p .address) entry (cellWord 12 (Bound q)) t h (omega arith) names (sym (binds-unbound h u l r x ex p q e)));
+        heap = rw (d .heap, d .trail, ek) (undo-bind wordBack k (p .address) entry (cellWord 12 (Bound q)) t h (omega arith) names (binds-unbound h u l r x ex p q e));
         turned = rw (d .turned, d .trail, ek) (undo-bind markBack k (p .address) entry n t u (omega arith) names (entry-marks (p .address) old (d .address) (d .mark)));
       }
 

@@ -4,3 +4,4 @@ pub mod Operands
 pub mod Meeting
 pub mod Named
 pub mod Cycle
+pub mod Whole

@@ -72,9 +72,9 @@ module _ (h : List ℕ) where
     look-names t e = subst Names e (both-names (derefOf h u l) (derefOf h u r) refl refl)
 
     module _ (t : Taken) (e : t ≡ lookOf h u l r) where
-      pub binds-unbound : (p q : Ref) → t ≡ Bind p q → getD h (p .address) 0 ≡ 2 ^ 60
-      unfolding Names cellWord
-      binds-unbound p q f = sym (filled-word (getD h (p .address) 0) Unbound (look-names (Bind p q) (sym e ∙ f)))
+      pub binds-unbound : (p q : Ref) → t ≡ Bind p q → cellWord 12 Unbound ≡ getD h (p .address) 0
+      unfolding Names
+      binds-unbound p q f = filled-word (getD h (p .address) 0) Unbound (look-names (Bind p q) (sym e ∙ f))
 
       pub few-arguments : (a b n : ℕ) → t ≡ Arguments a b n → n ≤ 14
       unfolding Names

@@ -21,7 +21,7 @@ entryOf a mark = a + mark * 2 ^ 16
 
 -- what an entry puts back: an unbound variable has only one word; its mark stands in the entry
 unfoldable pub wordBack : ℕ → ℕ
-wordBack e = 2 ^ 60
+wordBack e = cellWord 12 Unbound
 
 unfoldable pub markBack : ℕ → ℕ
 markBack e = e / 2 ^ 16 % 2 ^ 8

@@ -18,7 +18,9 @@ use Rattle.machine.specs.declared.Found.the-variants.{Dead, At}
 use Rattle.machine.specs.Unify.{younger}
 use Rattle.store.specs.Rows.{present}
 use Rattle.terms.specs.declared.deref.Operand.{Operand}
-use Rattle.terms.specs.declared.deref.Operand.the-variants.{Missing, Live}
+use Rattle.terms.specs.declared.deref.Operand.the-variants as Operand
+use Rattle.terms.specs.declared.unify.Operands.{Operands}
+use Rattle.terms.specs.declared.unify.Operands.the-variants as Operands
 use Rattle.terms.specs.declared.unify.Taken.{Taken}
 use Rattle.terms.specs.declared.unify.Taken.the-variants.{Died, Differ, Same, Bind, Arguments}
 use Rattle.terms.specs.Deref.{derefOf, operandAt}
@@ -133,14 +135,18 @@ unfoldable pub unifyTerms : ℕ → ℕ → Ref → Ref → Marked → Unified
 unifyTerms n budget l r m = settled budget m (solve n budget (refs l r ∷ []) m)
 
 unfoldable pub onOperand : {A : Type 0} → Operand → (Ref → A) → A → A
-onOperand Missing f z = z
-onOperand (Live r) f z = f r
+onOperand Operand.Missing f z = z
+onOperand (Operand.Live r) f z = f r
 
--- both registers must hold a term of a live region, else the status is 4 and no pair is taken; a budget has 12 bits
+unfoldable pub onOperands : {A : Type 0} → Operands → (Ref → Ref → A) → A → A
+onOperands Operands.Missing f z = z
+onOperands (Operands.Both l r) f z = f l r
+
+-- both registers must hold a term of a live region
+unfoldable pub operandsAt : List ℕ → List ℕ → List ℕ → ℕ → ℕ → Operands
+operandsAt h t u a b = onOperand (operandAt h t u a) (λ l. onOperand (operandAt h t u b) (λ r. Operands.Both l r) Operands.Missing) Operands.Missing
+
+-- else the status is 4, and no pair is taken. A budget has 12 bits
 unfoldable pub unifyOf : List ℕ → List ℕ → List ℕ → ℕ → ℕ → ℕ → Unified
 unifyOf h t u a b budget =
-    onOperand (operandAt h t u a)
-    (λ l. onOperand (operandAt h t u b)
-    (λ r. unifyTerms (present t) (budget % 2 ^ 12) l r (marked h u))
-    (unified (plain 4) h u))
-    (unified (plain 4) h u)
+    onOperands (operandsAt h t u a b) (λ l r. unifyTerms (present t) (budget % 2 ^ 12) l r (marked h u)) (unified (plain 4) h u)

@@ -2,18 +2,19 @@
 
 ghost use mathlib.Core.Path.{_≡_};
 ghost use mathlib.Core.List.{[], _∷_};
-ghost use Prim.Native.Nat.{_+_, _-_, _≤_};
+ghost use Prim.Native.Nat.{_+_, _-_, _%_, _^_, _≤_};
 ghost use lib.ListN.{length, getD, set};
 ghost use Rattle.words.specs.Words.{refOf};
 ghost use Rattle.words.specs.declared.Cell.the-variants.{Unbound, Int, Head};
 ghost use Rattle.machine.specs.Unify.{younger};
-ghost use Rattle.terms.specs.Unify.{meetOf, lookOf, refs, argItems};
+ghost use Rattle.terms.specs.Unify.{meetOf, lookOf, marked, refs, argItems, unified, unifyTerms, operandsAt, unifyOf};
 ghost use Rattle.terms.specs.Took.{BoundTo, Took, entryOf, wordBack, markBack, undoOf};
-use crate::deref::deref;
+use crate::deref::{deref, live_term, Operand};
 use machine::Found;
 use store::cells;
+use store::registers;
 use words::heap::{pack_cell, reference};
-use words::{Cell, Ref};
+use words::{Answer, Cell, Ref};
 
 // What a pair comes to: a dead reference, terms that differ, equal terms, a variable to bind to a cell, or the arguments of two structures
 // (the addresses of their heads, and how many arguments each has).
@@ -23,6 +24,12 @@ pub enum Taken {
     Same,
     Bind(Ref, Ref),
     Arguments(u16, u16, u8),
+}
+
+// The terms in two registers, each of a region that is in the present copy.
+pub enum Operands {
+    Missing,
+    Both(Ref, Ref),
 }
 
 // How far a unification is: its status, how many entries of the trail it has used, how many pairs it may still take.
@@ -215,4 +222,105 @@ fn walk_args(heap: &mut [u64], turned: &mut [u8], trail: &mut [u32], n: u8, a: u
             left: p.left,
         }
     }
+}
+
+fn entry(trail: &[u32], k: u16) -> u32
+    ensures { λ r. ⌜ r ≡ getD (now (trail .entry)) k 0 ⌝ }
+{
+    let i = k as usize;
+    if i < trail.len() { trail[i] } else { 0 }
+}
+
+// A variable of the trail is unbound again, and has its old mark.
+fn undo_entry(heap: &mut [u64], turned: &mut [u8], trail: &[u32], k: u16)
+    ensures heap { λ _. ⌜ now (heap .exit) ≡ set (now (heap .entry)) (getD (now (trail .entry)) k 0 % 2 ^ 16) (wordBack (getD (now (trail .entry)) k 0)) ⌝ }
+    ensures turned { λ _. ⌜ now (turned .exit) ≡ set (now (turned .entry)) (getD (now (trail .entry)) k 0 % 2 ^ 16) (markBack (getD (now (trail .entry)) k 0)) ⌝ }
+{
+    let e = entry(trail, k);
+    let a = (e % 65536) as usize;
+    cells::put(heap, a, pack_cell(Cell::Unbound));
+    cells::set_mark(turned, a, (e / 65536 % 256) as u8);
+}
+
+// The bindings of the trail's first n entries are undone, the last first.
+fn undo(heap: &mut [u64], turned: &mut [u8], trail: &[u32], n: u16)
+    ensures heap { λ _. ⌜ now (heap .exit) ≡ undoOf wordBack n (now (trail .entry)) (now (heap .entry)) ⌝ }
+    ensures turned { λ _. ⌜ now (turned .exit) ≡ undoOf markBack n (now (trail .entry)) (now (turned .entry)) ⌝ }
+{
+    let mut k = n;
+    while 0 < k {
+        k -= 1;
+        undo_entry(heap, turned, trail, k);
+    }
+}
+
+// Unless the status is 0, no binding remains.
+fn unify_terms(heap: &mut [u64], turned: &mut [u8], trail: &mut [u32], n: u8, l: Ref, r: Ref, budget: u16) -> Answer
+    requires { ⌜ 4096 ≤ length (now trail) ⌝ }
+    ensures { λ q. ⌜ unified q (now (heap .exit)) (now (turned .exit)) ≡ unifyTerms n (budget % 2 ^ 12) l r (marked (now (heap .entry)) (now (turned .entry))) ⌝ }
+{
+    let most = budget % 4096;
+    let p = take_pair(
+        heap,
+        turned,
+        trail,
+        n,
+        l,
+        r,
+        Progress {
+            status: 0,
+            bound: 0,
+            left: most,
+        },
+    );
+    let status = p.status;
+    let pairs = most - p.left;
+    if status != 0 {
+        undo(heap, turned, trail, p.bound);
+        return Answer {
+            status,
+            kind: 0,
+            pairs,
+            payload: 0,
+        };
+    }
+    Answer {
+        status,
+        kind: 0,
+        pairs,
+        payload: 0,
+    }
+}
+
+// Both registers must hold a term of a live region.
+fn both_terms(heap: &[u64], tables: &[u64], turned: &[u8], a: u8, b: u8) -> Operands
+    ensures { λ r. ⌜ r ≡ operandsAt (now (heap .entry)) (now (tables .entry)) (now (turned .entry)) a b ⌝ }
+{
+    let x = live_term(heap, tables, turned, a);
+    let Operand::Live(l) = x else {
+        return Operands::Missing;
+    };
+    let y = live_term(heap, tables, turned, b);
+    let Operand::Live(r) = y else {
+        return Operands::Missing;
+    };
+    Operands::Both(l, r)
+}
+
+// Op 6. The trail is scratch: it has room for an entry for each pair, and what it holds afterwards is not told.
+pub fn unify(heap: &mut [u64], tables: &[u64], turned: &mut [u8], trail: &mut [u32], a: u8, b: u8, budget: u16) -> Answer
+    requires { ⌜ 4096 ≤ length (now trail) ⌝ }
+    ensures { λ q. ⌜ unified q (now (heap .exit)) (now (turned .exit)) ≡ unifyOf (now (heap .entry)) (now (tables .entry)) (now (turned .entry)) a b budget ⌝ }
+{
+    let x = both_terms(heap, tables, turned, a, b);
+    let Operands::Both(l, r) = x else {
+        return Answer {
+            status: 4,
+            kind: 0,
+            pairs: 0,
+            payload: 0,
+        };
+    };
+    let n = registers::copy_number(tables);
+    unify_terms(heap, turned, trail, n, l, r, budget)
 }
