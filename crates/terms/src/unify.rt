@@ -9,12 +9,17 @@ ghost use Rattle.words.specs.declared.Cell.the-variants.{Unbound, Int, Head};
 ghost use Rattle.machine.specs.Unify.{younger};
 ghost use Rattle.terms.specs.Unify.{meetOf, lookOf, marked, refs, argItems, unified, unifyTerms, operandsAt, unifyOf};
 ghost use Rattle.terms.specs.Took.{BoundTo, Took, entryOf, wordBack, markBack, undoOf};
-use crate::deref::{deref, live_term, Operand};
+use crate::deref::Operand;
+use crate::deref::deref;
+use crate::deref::live_term;
 use machine::Found;
 use store::cells;
 use store::registers;
-use words::heap::{pack_cell, reference};
-use words::{Answer, Cell, Ref};
+use words::Answer;
+use words::Cell;
+use words::Ref;
+use words::heap::pack_cell;
+use words::heap::reference;
 
 // What a pair comes to: a dead reference, terms that differ, equal terms, a variable to bind to a cell, or the arguments of two structures
 // (the addresses of their heads, and how many arguments each has).
@@ -142,7 +147,15 @@ fn note(trail: &mut [u32], k: u16, address: u16, mark: u8)
 }
 
 // The variable at r is bound to the cell at s, in the present copy, n.
-fn bind(heap: &mut [u64], turned: &mut [u8], trail: &mut [u32], n: u8, r: Ref, s: Ref, p: Progress) -> Progress
+fn bind(
+    heap: &mut [u64],
+    turned: &mut [u8],
+    trail: &mut [u32],
+    n: u8,
+    r: Ref,
+    s: Ref,
+    p: Progress,
+) -> Progress
     ensures { λ q. ⌜ BoundTo n r s (p .bound) (p .left) (now (heap .entry)) (now (turned .entry)) (now (trail .entry)) (q .status) (q .bound) (q .left) (now (heap .exit)) (now (turned .exit)) (now (trail .exit)) ⌝ }
 {
     let address = r.address;
@@ -166,7 +179,15 @@ fn argument(heap: &[u64], a: u16, k: u8) -> Ref
 }
 
 // One pair is taken: if the budget's number has been taken already, it stops with 10; else the pair is counted.
-fn take_pair(heap: &mut [u64], turned: &mut [u8], trail: &mut [u32], n: u8, l: Ref, r: Ref, p: Progress) -> Progress
+fn take_pair(
+    heap: &mut [u64],
+    turned: &mut [u8],
+    trail: &mut [u32],
+    n: u8,
+    l: Ref,
+    r: Ref,
+    p: Progress,
+) -> Progress
     requires { ⌜ (p .bound + p .left ≤ 4096) × (4096 ≤ length (now trail)) ⌝ }
     ensures { λ q. ⌜ Took n (refs l r ∷ []) (p .bound) (p .left) (now (heap .entry)) (now (turned .entry)) (now (trail .entry)) (q .status) (q .bound) (q .left) (now (heap .exit)) (now (turned .exit)) (now (trail .exit)) ⌝ }
 {
@@ -202,7 +223,17 @@ fn take_pair(heap: &mut [u64], turned: &mut [u8], trail: &mut [u32], n: u8, l: R
 }
 
 // The pairs of arguments from number i on are taken, of the structures whose heads are at a and b; each has m arguments.
-fn walk_args(heap: &mut [u64], turned: &mut [u8], trail: &mut [u32], n: u8, a: u16, b: u16, i: u8, m: u8, p: Progress) -> Progress
+fn walk_args(
+    heap: &mut [u64],
+    turned: &mut [u8],
+    trail: &mut [u32],
+    n: u8,
+    a: u16,
+    b: u16,
+    i: u8,
+    m: u8,
+    p: Progress,
+) -> Progress
     requires { ⌜ (p .bound + p .left ≤ 4096) × (4096 ≤ length (now trail)) ⌝ }
     ensures { λ q. ⌜ Took n (argItems a b i (m - i)) (p .bound) (p .left) (now (heap .entry)) (now (turned .entry)) (now (trail .entry)) (q .status) (q .bound) (q .left) (now (heap .exit)) (now (turned .exit)) (now (trail .exit)) ⌝ }
 {
@@ -255,7 +286,15 @@ fn undo(heap: &mut [u64], turned: &mut [u8], trail: &[u32], n: u16)
 }
 
 // Unless the status is 0, no binding remains.
-fn unify_terms(heap: &mut [u64], turned: &mut [u8], trail: &mut [u32], n: u8, l: Ref, r: Ref, budget: u16) -> Answer
+fn unify_terms(
+    heap: &mut [u64],
+    turned: &mut [u8],
+    trail: &mut [u32],
+    n: u8,
+    l: Ref,
+    r: Ref,
+    budget: u16,
+) -> Answer
     requires { ⌜ 4096 ≤ length (now trail) ⌝ }
     ensures { λ q. ⌜ unified q (now (heap .exit)) (now (turned .exit)) ≡ unifyTerms n (budget % 2 ^ 12) l r (marked (now (heap .entry)) (now (turned .entry))) ⌝ }
 {
@@ -308,7 +347,15 @@ fn both_terms(heap: &[u64], tables: &[u64], turned: &[u8], a: u8, b: u8) -> Oper
 }
 
 // Op 6. The trail is scratch: it has room for an entry for each pair, and what it holds afterwards is not told.
-pub fn unify(heap: &mut [u64], tables: &[u64], turned: &mut [u8], trail: &mut [u32], a: u8, b: u8, budget: u16) -> Answer
+pub fn unify(
+    heap: &mut [u64],
+    tables: &[u64],
+    turned: &mut [u8],
+    trail: &mut [u32],
+    a: u8,
+    b: u8,
+    budget: u16,
+) -> Answer
     requires { ⌜ 4096 ≤ length (now trail) ⌝ }
     ensures { λ q. ⌜ unified q (now (heap .exit)) (now (turned .exit)) ≡ unifyOf (now (heap .entry)) (now (tables .entry)) (now (turned .entry)) a b budget ⌝ }
 {

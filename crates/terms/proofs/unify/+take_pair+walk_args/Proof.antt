@@ -40,45 +40,45 @@ pub +take-pair+walk-args-spec : {M : Type 1} → statement M
 +take-pair+walk-args-spec =
     close μ-take-pair μ-walk-args
     (λ t. take-pair-lts.spec (look-reads.Asked, look-reads.Learnt, bind-reads.Asked, bind-reads.Learnt, walk-args-below t, walk-args.Post) (take-pair-at t) take-pair.Post
-    (λ c. search took-spent) -- returns
-    (λ c. search needs) -- sub-t17
-    (λ c κs. search needs) -- look-requires
-    (λ c. search needs) -- enum-told
-    (λ c. search needs) -- enum-told-2
-    (λ c. search needs) -- enum-told-3
-    (λ c. search needs) -- enum-known-x
-    (λ c κs. search needs) -- bind-requires
-    (λ c. search needs) -- enum-known-x-2
-    (λ c κs. (search walk-falls, search needs)) -- walk-args-requires
-    (λ c. search needs) -- same-length
-    (λ c. search needs) -- same-length-2
-    (λ c. search took-dead) -- returns-2
-    (λ c. search needs) -- same-length-3
-    (λ c. search needs) -- same-length-4
-    (λ c. search took-differ) -- returns-3
-    (λ c. search needs) -- same-length-5
-    (λ c. search needs) -- same-length-6
-    (λ c. search took-same) -- returns-4
-    (λ c. search needs) -- same-length-7
-    (λ c. search needs) -- same-length-8
-    (λ c. search needs) -- same-length-9
-    (λ c. search took-bind) -- returns-5
-    (λ c. search needs) -- same-length-10
-    (λ c. search needs) -- same-length-11
-    (λ c. search needs) -- same-length-12
-    (λ c. search took-args)) -- returns-6
+    (λ c. search took-spent)  -- returns
+    (λ c. search needs)  -- sub-t17
+    (λ c κs. search needs)  -- look-requires
+    (λ c. search needs)  -- enum-told
+    (λ c. search needs)  -- enum-told-2
+    (λ c. search needs)  -- enum-told-3
+    (λ c. search needs)  -- enum-known-x
+    (λ c κs. search needs)  -- bind-requires
+    (λ c. search needs)  -- enum-known-x-2
+    (λ c κs. (search walk-falls, search needs))  -- walk-args-requires
+    (λ c. search needs)  -- same-length
+    (λ c. search needs)  -- same-length-2
+    (λ c. search took-dead)  -- returns-2
+    (λ c. search needs)  -- same-length-3
+    (λ c. search needs)  -- same-length-4
+    (λ c. search took-differ)  -- returns-3
+    (λ c. search needs)  -- same-length-5
+    (λ c. search needs)  -- same-length-6
+    (λ c. search took-same)  -- returns-4
+    (λ c. search needs)  -- same-length-7
+    (λ c. search needs)  -- same-length-8
+    (λ c. search needs)  -- same-length-9
+    (λ c. search took-bind)  -- returns-5
+    (λ c. search needs)  -- same-length-10
+    (λ c. search needs)  -- same-length-11
+    (λ c. search needs)  -- same-length-12
+    (λ c. search took-args))  -- returns-6
     (λ t. walk-args-lts.spec (argument-reads.Asked, argument-reads.Learnt, take-pair-below t, take-pair.Post, walk-args-below t, walk-args.Post) (walk-args-at t) walk-args.Post
-    (λ c. search needs) -- add-next
-    (λ c κs. search needs) -- argument-requires
-    (λ c κs. search needs) -- argument-requires-2
-    (λ c κs. search needs) -- take-pair-requires
-    (λ c. search needs) -- same-length
-    (λ c. search needs) -- same-length-2
-    (λ c. search needs) -- same-length-3
-    (λ c. search walk-stop) -- returns
-    (λ c κs. search (needs, c .before .before .before .before .before .before .before .before .before .before .before .before .before .before .before .before .before .before .before .if1 .taken, c .before .before .before .before .before .before .before .before .before .before .before .before .before .before .before .before .before .before .before .before .before .before .before .pre)) -- walk-args-requires
-    (λ c. search needs) -- same-length-4
-    (λ c. search needs) -- same-length-5
-    (λ c. search needs) -- same-length-6
-    (λ c. search (walk-on, c .before .before .before .before .before .before .before .before .before .before .before .before .before .before .before .before .before .before .before .before .before .before .argument2 .ensures, c .before .before .before .before .before .before .before .before .before .before .before .before .before .before .before .before .before .before .before .before .before .before .before .before .argument .ensures, c .before .before .before .before .before .before .before .before .before .before .before .before .before .before .before .before .before .before .before .before .before .before .before .before .before .before .if1 .taken)) -- returns-2
-    (λ c. search walk-done)) -- returns-3
+    (λ c. search needs)  -- add-next
+    (λ c κs. search needs)  -- argument-requires
+    (λ c κs. search needs)  -- argument-requires-2
+    (λ c κs. search needs)  -- take-pair-requires
+    (λ c. search needs)  -- same-length
+    (λ c. search needs)  -- same-length-2
+    (λ c. search needs)  -- same-length-3
+    (λ c. search walk-stop)  -- returns
+    (λ c κs. search (needs, c .before .before .before .before .before .before .before .before .before .before .before .before .before .before .before .before .before .before .before .if1 .taken, c .before .before .before .before .before .before .before .before .before .before .before .before .before .before .before .before .before .before .before .before .before .before .before .pre))  -- walk-args-requires
+    (λ c. search needs)  -- same-length-4
+    (λ c. search needs)  -- same-length-5
+    (λ c. search needs)  -- same-length-6
+    (λ c. search (walk-on, c .before .before .before .before .before .before .before .before .before .before .before .before .before .before .before .before .before .before .before .before .before .before .argument2 .ensures, c .before .before .before .before .before .before .before .before .before .before .before .before .before .before .before .before .before .before .before .before .before .before .before .before .argument .ensures, c .before .before .before .before .before .before .before .before .before .before .before .before .before .before .before .before .before .before .before .before .before .before .before .before .before .before .if1 .taken))  -- returns-2
+    (λ c. search walk-done))  -- returns-3

@@ -6,12 +6,12 @@ pub both-terms-spec : {M : Type 1} → statement M
 both-terms-spec =
     tie.close
     (tie.spec
-    (λ c κs. search whole) -- live-term-requires
-    (λ c. search whole) -- enum-known-x
-    (λ c. search whole) -- enum-told
-    (λ c. search whole) -- returns
-    (λ c κs. search whole) -- live-term-requires-2
-    (λ c. search whole) -- enum-known-y
-    (λ c. search whole) -- enum-told-2
-    (λ c. search whole) -- returns-2
-    (λ c. search whole)) -- returns-3
+    (λ c κs. search whole)  -- live-term-requires
+    (λ c. search whole)  -- enum-known-x
+    (λ c. search whole)  -- enum-told
+    (λ c. search whole)  -- returns
+    (λ c κs. search whole)  -- live-term-requires-2
+    (λ c. search whole)  -- enum-known-y
+    (λ c. search whole)  -- enum-told-2
+    (λ c. search whole)  -- returns-2
+    (λ c. search whole))  -- returns-3

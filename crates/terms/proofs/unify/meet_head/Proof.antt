@@ -6,10 +6,10 @@ pub meet-head-spec : {M : Type 1} → statement M
 meet-head-spec =
     tie.close
     (tie.spec
-    (λ c. search meeting) -- enum-told
-    (λ c. search meeting) -- enum-known-w
-    (λ c. search meeting) -- returns
-    (λ c. search meeting) -- returns-2
-    (λ c. search meeting) -- returns-3
-    (λ c. search meeting) -- returns-4
-    (λ c. search meeting)) -- returns-5
+    (λ c. search meeting)  -- enum-told
+    (λ c. search meeting)  -- enum-known-w
+    (λ c. search meeting)  -- returns
+    (λ c. search meeting)  -- returns-2
+    (λ c. search meeting)  -- returns-3
+    (λ c. search meeting)  -- returns-4
+    (λ c. search meeting))  -- returns-5

@@ -6,9 +6,9 @@ pub meet-int-spec : {M : Type 1} → statement M
 meet-int-spec =
     tie.close
     (tie.spec
-    (λ c. search meeting) -- enum-told
-    (λ c. search meeting) -- enum-known-w
-    (λ c. search meeting) -- returns
-    (λ c. search meeting) -- returns-2
-    (λ c. search meeting) -- returns-3
-    (λ c. search meeting)) -- returns-4
+    (λ c. search meeting)  -- enum-told
+    (λ c. search meeting)  -- enum-known-w
+    (λ c. search meeting)  -- returns
+    (λ c. search meeting)  -- returns-2
+    (λ c. search meeting)  -- returns-3
+    (λ c. search meeting))  -- returns-4

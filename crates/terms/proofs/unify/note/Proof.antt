@@ -6,10 +6,10 @@ pub note-spec : {M : Type 1} → statement M
 note-spec =
     tie.close
     (tie.spec
-    (λ c. search laws) -- mul-trail
-    (λ c. search laws) -- add-trail
-    (λ c. search laws) -- mul-trail-2
-    (λ c. search laws) -- slice-write-trail
-    (λ c. search laws) -- same-length
-    (λ c. search laws) -- returns
-    (λ c. search laws)) -- returns-2
+    (λ c. search laws)  -- mul-trail
+    (λ c. search laws)  -- add-trail
+    (λ c. search laws)  -- mul-trail-2
+    (λ c. search laws)  -- slice-write-trail
+    (λ c. search laws)  -- same-length
+    (λ c. search laws)  -- returns
+    (λ c. search laws))  -- returns-2

@@ -17,11 +17,11 @@ undo-spec =
     (tie.spec
     Inv-loop
     μ-loop
-    (λ c. search undoing) -- loop-holds
-    (λ c. search undoing) -- sub-k
-    (λ c κs. search undoing) -- undo-entry-requires
-    (λ c. search undoing) -- loop-less
-    (λ c. search undoing) -- loop-again
-    (λ c. search undoing) -- same-length
-    (λ c. search undoing) -- same-length-2
-    (λ c. (search undoing, search undoing))) -- returns
+    (λ c. search undoing)  -- loop-holds
+    (λ c. search undoing)  -- sub-k
+    (λ c κs. search undoing)  -- undo-entry-requires
+    (λ c. search undoing)  -- loop-less
+    (λ c. search undoing)  -- loop-again
+    (λ c. search undoing)  -- same-length
+    (λ c. search undoing)  -- same-length-2
+    (λ c. (search undoing, search undoing)))  -- returns

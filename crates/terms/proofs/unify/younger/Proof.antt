@@ -6,5 +6,5 @@ pub younger-spec : {M : Type 1} → statement M
 younger-spec =
     tie.close
     (tie.spec
-    (λ c. search meeting) -- returns
-    (λ c. search meeting)) -- returns-2
+    (λ c. search meeting)  -- returns
+    (λ c. search meeting))  -- returns-2
