@@ -4,3 +4,7 @@ pub mod Placing
 pub mod FoundWords
 pub mod Operands
 pub mod Building
+pub mod Meeting
+pub mod Named
+pub mod Cycle
+pub mod Whole
