@@ -18,7 +18,7 @@ use Rattle.words.specs.declared.Register.the-variants.{Empty, Region, Te
 use Rattle.words.specs.Fields.{bits, tagged, tagOf}
 use Rattle.words.specs.Integers.{bitsOf, intOf, IntIn}
 use Rattle.words.specs.Words.{refBits, cellWord, linkWord, registerWord, heapWord, stampOf, addressOf, refOf, heapReading, registerReading}
-use Rattle.words.specs.Fit.{RefFits, CellFits, cellTag, NextFits, hasNext, nextPage, LinkFits, WordFits, RegisterFits}
+use Rattle.words.specs.Fit.{RefFits, CellFits, cellTag, NextFits, hasNext, nextPage, LinkFits, WordFits, RegisterFits, registerTag}
 use Rattle.words.proofs.Fields.{bits-at}
 
 -- ---- a tag, then 32 bits, then x
@@ -228,15 +228,17 @@ module _ (k : ℕ) (low : 4 ≤ k) (high : k ≤ 16) where
   heap-back (Word.Linked (Joined s n)) h = joined-back s n (h .0) (h .1)
   heap-back Word.Broken h = absurd h
 
+  pub register-tag : (r : Register) → RegisterFits k r → tagOf (registerWord k r) ≡ registerTag r
+  unfolding registerWord RegisterFits registerTag
+  register-tag Empty h = refl
+  register-tag (Region s) h = tag-back 7 (s * 2 ^ 28) (omega arith) (omega arith)
+  register-tag (Term r) h = tag-back 8 (refBits k r) (omega arith) (ref-room r h)
+
   pub register-back : (r : Register) → RegisterFits k r → registerReading k (registerWord k r) ≡ r
-  unfolding registerReading registerWord RegisterFits
+  unfolding registerReading registerWord RegisterFits registerTag
   register-back Empty h = refl
-  register-back (Region s) h =
-      let e : tagOf (registerWord k (Region s)) ≡ 7 = tag-back 7 (s * 2 ^ 28) (omega arith) (omega arith) in
-      rw e (ap Region (stamp-alone 7 s h))
-  register-back (Term r) h =
-      let e : tagOf (registerWord k (Term r)) ≡ 8 = tag-back 8 (refBits k r) (omega arith) (ref-room r h) in
-      rw e (ap Term (ref-back 8 r h))
+  register-back (Region s) h = rw (register-tag (Region s) h) (ap Region (stamp-alone 7 s h))
+  register-back (Term r) h = rw (register-tag (Term r) h) (ap Term (ref-back 8 r h))
 
   pub register-below : (r : Register) → RegisterFits k r → registerWord k r < 2 ^ 64
   unfolding registerWord RegisterFits

@@ -1,7 +1,12 @@
 pub mod Fields
 pub mod Back
-pub mod Integers
+pub mod Ints
+pub mod Complement
+pub mod Packing
 pub mod Tests
+pub mod Unpacking
+pub mod Holding
 pub mod Rounds
-pub mod Answers
-pub mod Steps
+pub mod AnswerWords
+pub mod StepWords
+pub mod StepCode

@@ -22,8 +22,9 @@ use Rattle.words.specs.Integers.{intOf}
 use Rattle.words.specs.Words.{registerWord, heapWord, stampOf, refOf, linkOf, heapReading, wellFormed, unpackHeap, registerReading, unpackRegister}
 use Rattle.words.specs.Fit.{RefFits, CellFits, LinkFits, WordFits, RegisterFits}
 use Rattle.words.proofs.Fields.{bits-below}
+use Rattle.words.proofs.Unpacking.{heapReadings}
 use Rattle.words.proofs.Tests.{passed, passed-both, each-getD}
-use Rattle.words.proofs.Integers.{int-in}
+use Rattle.words.proofs.Ints.{int-in}
 use Rattle.words.proofs.Back.{heap-back, register-back}
 
 -- an arity that fits is 0 to 14
@@ -39,7 +40,7 @@ fits-formed k (Word.Linked l) h = refl
 fits-formed k Word.Broken h = absurd h
 
 -- whatever the word, its fields are in their widths
-ref-in : (k w : ℕ) → RefFits k (refOf k w)
+pub ref-in : (k w : ℕ) → RefFits k (refOf k w)
 ref-in k w = record { stamp = bits-below 28 32 w; address = bits-below (28 - k) k w }
 
 link-in : (k w : ℕ) (t : Bool) → LinkFits k (if t then Joined (stampOf w) (bits (31 - k) (k - 4) w) else Last (stampOf w))
@@ -50,16 +51,7 @@ link-in k w false = bits-below 28 32 w
 reading-in : (k w : ℕ) → heapReading k w ≢ Word.Broken → wellFormed (heapReading k w) ≡ true → WordFits k (heapReading k w)
 unfolding heapReading WordFits CellFits wellFormed
 reading-in k w =
-    each-getD (λ (x : Word). x ≢ Word.Broken → wellFormed x ≡ true → WordFits k x) (
-    Word.Empty
-    ∷ Word.Filled Unbound
-    ∷ Word.Filled (Bound (refOf k w))
-    ∷ Word.Filled (Int (intOf (bits 28 32 w)))
-    ∷ Word.Filled (Head (bits 44 16 w) (bits 40 4 w))
-    ∷ Word.Filled (Argument (refOf k w))
-    ∷ Word.Linked (linkOf k w)
-    ∷ []
-    ) Word.Broken (λ n f. absurd (n refl)) (
+    each-getD (λ (x : Word). x ≢ Word.Broken → wellFormed x ≡ true → WordFits k x) (heapReadings k w) Word.Broken (λ n f. absurd (n refl)) (
       λ n f. tt,
       (
         λ n f. tt,

@@ -67,6 +67,12 @@ RegisterFits k Empty = Unit {0}
 RegisterFits k (Region s) = s < 2 ^ 32
 RegisterFits k (Term r) = RefFits k r
 
+-- the tag of a register's word
+unfoldable pub registerTag : Register → ℕ
+registerTag Empty = 0
+registerTag (Region s) = 7
+registerTag (Term r) = 8
+
 -- registers 5 bits each, functor 16, arity 4, budget 12; what is refused is no step
 unfoldable pub StepFits : Step → Type 0
 StepFits Refused = ⊥

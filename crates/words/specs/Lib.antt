@@ -4,3 +4,5 @@ pub mod Words
 pub mod Steps
 pub mod Answers
 pub mod Fit
+pub mod Clip
+pub mod Exact

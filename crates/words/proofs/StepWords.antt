@@ -1,7 +1,7 @@
 -- A legal step is read back from its word, and a word that says a step is that step's word. So a word is refused exactly if it is the word of no legal step.
 use mathlib.Core.Path.{_≡_, refl, sym, ap, _∙_, subst}
 use mathlib.Core.Bool.{true}
-use mathlib.Core.Logic.{_≢_}
+use mathlib.Core.Logic.{_⊎_, inl, inr, ⊎-elim, _≢_}
 use mathlib.Core.List.{List, [], _∷_}
 use Prim.Native.Nat.{ℕ, _+_, _*_, _^_, _<_}
 use native.Mathlib.Omega.{arith}
@@ -15,7 +15,7 @@ use Rattle.words.specs.Integers.{bitsOf, intOf, IntIn}
 use Rattle.words.specs.Steps.{fields, shape, stepWord, reading, fits, decode}
 use Rattle.words.specs.Fit.{StepFits}
 use Rattle.words.proofs.Fields.{bits-at, bits-below}
-use Rattle.words.proofs.Integers.{int-bits, int-below, int-in}
+use Rattle.words.proofs.Ints.{int-bits, int-below, int-in}
 use Rattle.words.proofs.Tests.{passed-both, each-getD}
 
 -- ---- the fields that every step has
@@ -86,7 +86,7 @@ reading-back Cut h = refl
 reading-back Backtrack h = refl
 
 -- what a word says, by its op
-abbrev readings : ℕ → List Step
+abbrev pub readings : ℕ → List Step
 readings w =
     let d : ℕ = bits 55 5 w in
     let a : ℕ = bits 50 5 w in
@@ -108,7 +108,7 @@ readings w =
     ∷ []
 
 -- whatever the word, its fields are in their widths
-reading-in : (w : ℕ) → reading w ≢ Refused → StepFits (reading w)
+pub reading-in : (w : ℕ) → (reading w ≡ Refused) ⊎ StepFits (reading w)
 unfolding reading StepFits
 reading-in w =
     let d : bits 55 5 w < 2 ^ 5 = bits-below 55 5 w in
@@ -116,40 +116,19 @@ reading-in w =
     let b : bits 45 5 w < 2 ^ 5 = bits-below 45 5 w in
     let f : bits 29 16 w < 2 ^ 16 = bits-below 29 16 w in
     let n : bits 25 4 w < 2 ^ 4 = bits-below 25 4 w in
-    each-getD (λ (s : Step). s ≢ Refused → StepFits s) (readings w) Refused (λ z. absurd (z refl)) (
-      λ z. absurd (z refl),
-      (
-        λ z. d,
-        (
-          λ z. a,
-          (
-            λ z. (d, a),
-            (
-              λ z. (d, a, int-in (bits 13 32 w) (bits-below 13 32 w)),
-              (
-                λ z. (d, a, b, f, n),
-                (
-                  λ z. (a, b, bits-below 33 12 w),
-                  (
-                    λ z. (d, a),
-                    (
-                      λ z. (d, a, f, n),
-                      (
-                        λ z. tt,
-                        (
-                          λ z. tt,
-                          (λ z. tt, tt),
-                        ),
-                      ),
-                    ),
-                  ),
-                ),
-              ),
-            ),
-          ),
-        ),
-      ),
-    )
+    each-getD (λ (s : Step). (s ≡ Refused) ⊎ StepFits s) (readings w) Refused (inl refl)
+    (inl refl,
+    (inr d,
+    (inr a,
+    (inr (d, a),
+    (inr (d, a, int-in (bits 13 32 w) (bits-below 13 32 w)),
+    (inr (d, a, b, f, n),
+    (inr (a, b, bits-below 33 12 w),
+    (inr (d, a),
+    (inr (d, a, f, n),
+    (inr tt,
+    (inr tt,
+    (inr tt, tt))))))))))))
     (bits 60 4 w)
 
 -- a legal step is decoded from its word
@@ -168,7 +147,7 @@ module _ (w : ℕ) (s : Step) (e : decode w ≡ s) (n : s ≢ Refused) where
 
   -- and what it says is legal
   pub decode-fits : StepFits s × (fits s ≡ true)
-  decode-fits = subst (λ (x : Step). StepFits x × (fits x ≡ true)) (decoded .2) (reading-in w (λ z. n (sym (decoded .2) ∙ z)), decoded .1)
+  decode-fits = subst (λ (x : Step). StepFits x × (fits x ≡ true)) (decoded .2) (⊎-elim (λ z. absurd (n (sym (decoded .2) ∙ z))) (λ h. h) (reading-in w), decoded .1)
 
 -- a word is refused only if it is the word of no legal step
 pub decode-refused : (w : ℕ) → decode w ≡ Refused → (s : Step) → StepFits s → fits s ≡ true → stepWord s ≢ w
