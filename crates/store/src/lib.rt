@@ -8,3 +8,4 @@ pub enum Which {
 
 pub mod cells;
 pub mod pages;
+pub mod references;

@@ -21,8 +21,7 @@ lowest-free-spec =
     μ-loop
     (λ c. search scans) -- add-end
     (λ c. search scans) -- loop-holds
-    (λ c. search scans) -- mul-word
-    (λ c κs. search scans) -- word-requires
+    (λ c κs. search scans) -- link-requires
     (λ c. search scans) -- returns
     (λ c. search scans) -- add-p
     (λ c. search scans) -- loop-less
