@@ -16,7 +16,8 @@ use Rattle.words.specs.Fields.{bits}
 use Rattle.words.specs.Words.{unpackHeap}
 use Rattle.store.specs.Pages.{link, newestPage}
 use Rattle.audit.specs.Live.{stampIn, ofStamp, newestCopy}
-use Rattle.audit.specs.Cells.{blank, Home, cellsOk}
+use Rattle.audit.specs.declared.Home.{Home}
+use Rattle.audit.specs.Cells.{blank, cellsOk}
 
 -- the page that was sought is this one
 unfoldable pub isAt : Sought → ℕ → Bool

@@ -11,7 +11,7 @@ use Rattle.words.specs.declared.Step.{Step}
 use Rattle.words.specs.declared.Step.the-variants.{Refused, MakeRegion, KillRegion, MakeVar, Integer, Structure, Unify, Deref, Destruct, PushChoice, Cut, Backtrack}
 use Rattle.words.specs.Steps.{fits, decode}
 use Rattle.words.specs.Fit.{StepFits}
-use Rattle.words.proofs.Steps.{decode-fits}
+use Rattle.words.proofs.StepWords.{decode-fits}
 use Rattle.machine.specs.Copies.{Machine, document, opening}
 use Rattle.machine.specs.Run.{exec, after, final}
 use Rattle.machine.specs.Sound.{LimitsOk, Sound, SoundSession}

@@ -1,0 +1,5 @@
+pub mod Flags
+pub mod Searches
+pub mod Chains
+pub mod CellCases
+pub mod Rules
