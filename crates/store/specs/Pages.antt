@@ -18,6 +18,10 @@ use Rattle.words.specs.Words.{linkWord}
 abbrev pub link : List ℕ → ℕ → ℕ
 link h p = getD h (p * 16) 0
 
+-- this is that word
+abbrev pub hasLink : List ℕ → ℕ → ℕ → Bool
+hasLink h w p = eqb (link h p) w
+
 -- a page that no copy holds: its link word is 0
 abbrev pub isFree : List ℕ → ℕ → Bool
 isFree h p = eqb (link h p) 0

@@ -1,6 +1,6 @@
 -- The registers of the copies in the tables, docs/LAYOUT.md: register r of copy n is word 2 + 32 (n - 1) + r. There is no copy 0.
 use mathlib.Core.List.{List}
-use Prim.Native.Nat.{ℕ, _+_, _-_, _*_}
+use Prim.Native.Nat.{ℕ, _+_, _-_, _*_, _%_}
 use lib.Dec.{eqb}
 use lib.ListN.{getD, set}
 use Rattle.laws.specs.Pick.{pick}
@@ -9,6 +9,10 @@ use Rattle.laws.specs.Loops.{run}
 -- the number of copies, the present one included
 abbrev pub countOf : List ℕ → ℕ
 countOf t = getD t 1 0
+
+-- as a mark, which has 8 bits
+unfoldable pub present : List ℕ → ℕ
+present t = countOf t % 256
 
 abbrev pub place : ℕ → ℕ → ℕ
 place n r = n * 32 + r - 30

@@ -9,3 +9,4 @@ pub enum Which {
 pub mod cells;
 pub mod pages;
 pub mod references;
+pub mod registers;

@@ -1,29 +1,12 @@
-use Prim.Native.Nat.{_+_, _-_}
-use Rattle.laws.proofs.Scan.{Scanning}
-use Rattle.store.specs.Pages.{isFree}
 use Rattle.store.specs.Pages.{lowestFree}
-use Rattle.laws.proofs.Rules.{scans}
+use Rattle.laws.proofs.Rules.{laws}
 use Rattle.store.proofs.pages.lowest_free.Statement.{statement}
 use Rattle.store.proofs.pages.lowest_free.Tie as tie
-
-abbrev Inv-loop : tie.InvT-loop
-Inv-loop heap first pages p₀ end p = Scanning (isFree heap) pages first p
-
-abbrev μ-loop : tie.MeasureT-loop
-μ-loop heap first pages p₀ end p = end - p
 
 pub lowest-free-spec : {M : Type 1} → statement M
 unfolding lowestFree
 lowest-free-spec =
     tie.close
     (tie.spec
-    Inv-loop
-    μ-loop
-    (λ c. search scans) -- add-end
-    (λ c. search scans) -- loop-holds
-    (λ c κs. search scans) -- link-requires
-    (λ c. search scans) -- returns
-    (λ c. search scans) -- add-p
-    (λ c. search scans) -- loop-less
-    (λ c. search scans) -- loop-again
-    (λ c. search scans)) -- returns-2
+    (λ c κs. search laws)  -- first-with-requires
+    (λ c. search laws))  -- returns
