@@ -2,4 +2,6 @@ pub mod Flags
 pub mod Searches
 pub mod Chains
 pub mod CellCases
+pub mod LinkCases
+pub mod RowCases
 pub mod Rules

@@ -18,9 +18,13 @@ use Rattle.store.specs.Pages.{link}
 unfoldable pub stampIn : ℕ → ℕ → Bool
 stampIn next s = pick (ltb 0 s) (ltb s next) false
 
+-- a page of the machine
+unfoldable pub pageIn : ℕ → ℕ → ℕ → Bool
+pageIn first pages p = pick (leb first p) (ltb p (first + pages)) false
+
 -- an address names a page of the machine and a word 1 to 15
 unfoldable pub addressIn : ℕ → ℕ → ℕ → Bool
-addressIn first pages a = pick (leb first (a / 16)) (pick (ltb (a / 16) (first + pages)) (ltb 0 (a % 16)) false) false
+addressIn first pages a = pick (pageIn first pages (a / 16)) (ltb 0 (a % 16)) false
 
 unfoldable pub refIn : ℕ → ℕ → ℕ → Ref → Bool
 refIn first pages next r = pick (stampIn next (r .stamp)) (addressIn first pages (r .address)) false

@@ -9,4 +9,6 @@ pub struct Home {
 }
 
 pub mod cells;
+pub mod links;
 pub mod live;
+pub mod rows;

@@ -2,7 +2,7 @@
 
 ghost use mathlib.Core.Path.{_≡_};
 ghost use Rattle.audit.specs.Live.{
-    stampIn, addressIn, refIn, ofStamp, newestCopy, sinceAt, seenAt, seenBefore, tagAt, starts, isVariable, namedSince, absentBefore, refOk, youngerThan, orderOk
+    stampIn, pageIn, addressIn, refIn, ofStamp, newestCopy, sinceAt, seenAt, seenBefore, tagAt, starts, isVariable, namedSince, absentBefore, refOk, youngerThan, orderOk
 };
 use store::cells;
 use store::pages;
@@ -18,15 +18,16 @@ pub fn stamp_in(next: u64, s: u32) -> bool
     if 0 < s { (s as u64) < next } else { false }
 }
 
+pub fn page_in(first: u16, pages: u16, p: u16) -> bool
+    ensures { λ r. ⌜ r ≡ pageIn first pages p ⌝ }
+{
+    if first <= p { (p as u32) < first as u32 + pages as u32 } else { false }
+}
+
 fn address_in(first: u16, pages: u16, a: u16) -> bool
     ensures { λ r. ⌜ r ≡ addressIn first pages a ⌝ }
 {
-    let p = a / 16;
-    if first <= p {
-        if (p as u32) < first as u32 + pages as u32 { 0 < a % 16 } else { false }
-    } else {
-        false
-    }
+    if page_in(first, pages, a / 16) { 0 < a % 16 } else { false }
 }
 
 fn ref_in(first: u16, pages: u16, next: u64, r: Ref) -> bool
