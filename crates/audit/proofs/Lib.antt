@@ -4,4 +4,5 @@ pub mod Chains
 pub mod CellCases
 pub mod LinkCases
 pub mod RowCases
+pub mod Whole
 pub mod Rules

@@ -12,6 +12,10 @@ use Rattle.machine.specs.Tables.{Lent}
 use Rattle.audit.specs.Links.{pageOk}
 use Rattle.audit.specs.Rows.{zeroTo, headOk, rowsOk}
 
+-- the four slices that are lent
+abbrev pub lent : List ℕ → List ℕ → List ℕ → List ℕ → Lent
+lent h t b u = record { heap = h; tables = t; born = b; turned = u }
+
 -- 1 to 256 whole pages
 unfoldable pub heapLengthOk : ℕ → Bool
 heapLengthOk k = pick (eqb (k % 16) 0) (pick (leb 16 k) (leb k 4096) false) false
@@ -30,13 +34,16 @@ pagesOk first pages slots h b u n next = pick (allOf (pageOk first pages h b u n
 unfoldable pub pastOk : ℕ → List ℕ → List ℕ → Bool
 pastOk end b u = pick (zeroTo b end 4096) (zeroTo u end 4096) false
 
--- all of it, where n is the number of copies and `next` the next stamp
+-- all pages and rows, where n is the number of copies and `next` the next stamp
 unfoldable pub memoryOk : ℕ → ℕ → ℕ → ℕ → Lent → ℕ → ℕ → Bool
 memoryOk first pages slots choices l n next =
     pick (pagesOk first pages slots (l .heap) (l .born) (l .turned) n next)
     (pick (rowsOk first pages choices (l .heap) (l .tables) (l .born) (l .turned) n next) (pastOk (length (l .heap)) (l .born) (l .turned)) false) false
 
+-- a machine on these pages, with so many slots and choice points
+unfoldable pub machineOk : ℕ → ℕ → ℕ → ℕ → Lent → Bool
+machineOk first pages slots choices l =
+    pick (headOk choices (l .tables)) (memoryOk first pages slots choices l (present (l .tables)) (getD (l .tables) 0 0)) false
+
 unfoldable pub soundTest : Lent → Bool
-soundTest l =
-    pick (lengthsOk l)
-    (pick (headOk 32 (l .tables)) (memoryOk 0 (length (l .heap) / 16) 64 32 l (present (l .tables)) (getD (l .tables) 0 0)) false) false
+soundTest l = pick (lengthsOk l) (machineOk 0 (length (l .heap) / 16) 64 32 l) false
