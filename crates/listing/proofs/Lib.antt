@@ -3,3 +3,4 @@ pub mod Words
 pub mod Digits
 pub mod Text
 pub mod Pasting
+pub mod Printed

@@ -1,16 +1,17 @@
 -- Texts written one after another: what the last call did is said of the buffer that the call before left.
-use Prim.Native.Nat.{ℕ, _+_, _/_, _%_, _^_, _<_, _≤_}
-use mathlib.Core.List.{List, [], _∷_, _++_}
+use Prim.Native.Nat.{ℕ, zero, suc, _+_, _/_, _%_, _^_, _<_, _≤_}
+use mathlib.Core.List.{List, [], _∷_, _++_, map}
 use mathlib.Core.Path.{_≡_, refl, sym, ap, _∙_}
 use native.Mathlib.Omega.{arith}
-use native.Mathlib.Numerals.{add-one}
 use borrow.Author.Needs.{needs}
-use lib.ListN.{length, getD, set, take}
-use lib.Seq.{take-suc, take-length}
+use lib.ListN.{length, getD, set}
+use Rattle.laws.specs.Loops.{run}
 use Rattle.laws.proofs.Pick.{yes-lt, no-lt}
+use Rattle.laws.proofs.Turns.{Turning, turning-starts, turning-on, turning-ends}
 use Rattle.words.specs.declared.Answer.{Answer}
+use Rattle.words.specs.Answers.{answerOf}
 use Rattle.machine.specs.declared.State.{State}
-use Rattle.machine.specs.Program.{decimal, space, lineFeed, stepLine, lastLine, openingLine, pagesOf, firstStamp}
+use Rattle.machine.specs.Program.{decimal, space, lineFeed, stepLine, stepLines, lastLine, openingLine, pagesOf, firstStamp}
 use Rattle.listing.specs.Text.{Written, written, write, writes, stepStart, openingText}
 use Rattle.listing.proofs.Digits.{one-digit, more-digits}
 
@@ -36,29 +37,40 @@ module _ (a b : List ℕ) (w w₁ w₂ : Written) where
   pub and-then : w₂ ≡ writes b w₁ → w₁ ≡ writes a w → w₂ ≡ writes (a ++ b) w
   and-then f e = f ∙ ap (writes b) e ∙ sym (writes-append a b w)
 
--- ---- a text byte by byte: i of its bytes are written
+-- ---- turns: each writes a piece, and the pieces are a text byte by byte, or a line for each answer
 
-pub record Copying (text : List ℕ) (w : Written) (i : ℕ) (x : Written) : Type 0 where
-  pub within : i ≤ length text
-  pub is : x ≡ writes (take i text) w
+run-first : {A : Type 0} (f : ℕ → A → A) (n : ℕ) (s : A) → run f (suc n) s ≡ run (λ k. f (suc k)) n (f zero s)
+unfolding run
+run-first f zero s = refl
+run-first f (suc n) s = ap (f (suc n)) (run-first f n s)
 
-pub copying-starts : (text : List ℕ) (w : Written) → Copying text w 0 w
-unfolding writes
-copying-starts text w = record { within = omega arith; is = refl }
+text-turned : (text : List ℕ) (w : Written) → run (λ k. writes (getD text k 0 ∷ [])) (length text) w ≡ writes text w
+unfolding run writes
+text-turned [] w = refl
+text-turned (b ∷ text) w = run-first (λ k. writes (getD (b ∷ text) k 0 ∷ [])) (length text) w ∙ text-turned text (write b w)
 
-module _ (text : List ℕ) (w : Written) (i : ℕ) (x : Written) (s : Copying text w i x) where
-  pub copying-on : (y : Written) → i < length text → y ≡ writes (getD text i 0 ∷ []) x → Copying text w (i + 1) y
-  copying-on y h e =
-      record {
-        within = omega arith;
-        is = and-then (take i text) (getD text i 0 ∷ []) w x y e (s .is)
-            ∙ ap (λ (l : List ℕ). writes l w) (sym (take-suc text i 0 h) ∙ ap (λ (k : ℕ). take k text) (sym (add-one i)));
-      }
+lines-turned : (n : ℕ) (l : List ℕ) (w : Written) → run (λ k. writes (stepLine (n + k) (answerOf (getD l k 0)))) (length l) w ≡ writes (stepLines n (map answerOf l)) w
+unfolding run writes stepLines
+lines-turned n [] w = refl
+lines-turned n (a ∷ l) w =
+    let e : (k : ℕ) → n + suc k ≡ suc n + k = λ k. omega arith in
+    let z : n + 0 ≡ n = omega arith in
+    run-first (λ k. writes (stepLine (n + k) (answerOf (getD (a ∷ l) k 0)))) (length l) w
+    ∙ (λ j. run (λ k. writes (stepLine (e k j) (answerOf (getD l k 0)))) (length l) (writes (stepLine (z j) (answerOf a)) w))
+    ∙ lines-turned (suc n) l (writes (stepLine n (answerOf a)) w)
+    ∙ sym (writes-append (stepLine n (answerOf a)) (stepLines (suc n) (map answerOf l)) w)
 
-  pub copying-ends : length text ≤ i → x ≡ writes text w
-  copying-ends h =
-      let z : i ≡ length text = omega (arith, s .within) in
-      s .is ∙ ap (λ (k : ℕ). writes (take k text) w) z ∙ ap (λ (l : List ℕ). writes l w) (take-length text)
+module _ (i : ℕ) (w x : Written) where
+  pub text-ends : (text : List ℕ) → Turning (λ k. writes (getD text k 0 ∷ [])) (length text) i w x → length text ≤ i → x ≡ writes text w
+  text-ends text s h = turning-ends (λ k. writes (getD text k 0 ∷ [])) (length text) i w x s h ∙ text-turned text w
+
+  pub lines-end : (n : ℕ) (l : List ℕ) → Turning (λ k. writes (stepLine (n + k) (answerOf (getD l k 0)))) (length l) i w x → length l ≤ i →
+      x ≡ writes (stepLines n (map answerOf l)) w
+  lines-end n l s h = turning-ends (λ k. writes (stepLine (n + k) (answerOf (getD l k 0)))) (length l) i w x s h ∙ lines-turned n l w
+
+-- an answer word's line, where the code has the answer
+pub answer-lined : (n v : ℕ) (a : Answer) (w w₁ : Written) → a ≡ answerOf v → w₁ ≡ writes (stepLine n a) w → w₁ ≡ writes (stepLine n (answerOf v)) w
+answer-lined n v a w w₁ q e = e ∙ ap (λ (b : Answer). writes (stepLine n b) w) q
 
 -- ---- numbers
 
@@ -117,4 +129,4 @@ unfolding openingText openingLine
 opening-is first = refl
 
 pub ruleset printing =
-    (needs, byte-fits, byte-cut, and-then, copying-starts, copying-on, copying-ends, decimal-one, decimal-more, spaced, step-started, step-lined, opened, closed)
+    (needs, byte-fits, byte-cut, and-then, turning-starts, turning-on, text-ends, lines-end, answer-lined, decimal-one, decimal-more, spaced, step-started, step-lined, opened, closed)

@@ -3,13 +3,13 @@ use Prim.Native.Nat.{ℕ, zero, suc, _+_, _*_, _/_, _%_, _≤_}
 use mathlib.Core.List.{List, [], _∷_, _++_}
 use mathlib.Core.Path.{_≡_, refl, sym, ap, _∙_}
 use native.Mathlib.Omega.{arith}
-use lib.ListN.{length, getD, set, drop}
-use lib.Seq.{drop-cons, set-at, append-snoc}
+use lib.ListN.{length, getD, set, take, drop}
+use lib.Seq.{drop-cons, set-at, take-at, append-snoc}
 use Rattle.laws.specs.Search.{tab}
 use Rattle.laws.specs.Loops.{run}
 use Rattle.laws.proofs.Search.{tab-same, length-tab}
 use Rattle.machine.specs.Program.{wordsFrom}
-use Rattle.listing.specs.File.{fourAt, wordAt, wordsRead}
+use Rattle.listing.specs.File.{fourAt, wordAt, wordsRead, stepsOf}
 
 -- eight bytes in front of a file: one word more
 module _ (a b c d e f g h : ℕ) (rest : List ℕ) where
@@ -83,3 +83,10 @@ module _ (file : List ℕ) (whole : length file % 8 ≡ 0) where
   pub words-read : (words : List ℕ) → count ≤ length words → wordsRead file count words ≡ wordsFrom 0 0 file ++ drop count words
   unfolding wordsRead
   words-read words h = stored (wordAt file) count words h ∙ ap (λ (l : List ℕ). l ++ drop count words) (sym counted)
+
+-- the steps in the list after a file of k steps was read
+pub steps-read : (file : List ℕ) (k : ℕ) (words : List ℕ) → suc k ≤ length words → take k (drop 1 (wordsRead file (suc k) words)) ≡ stepsOf file k
+unfolding wordsRead tab
+steps-read file k words h =
+    ap (λ (l : List ℕ). take k (drop 1 l)) (stored (wordAt file) (suc k) words h)
+    ∙ take-at (stepsOf file k) (drop (suc k) words) k (length-tab k (λ i. wordAt file (suc i)))

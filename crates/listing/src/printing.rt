@@ -1,12 +1,14 @@
 // The lines of document 01, written into a lent buffer. Each function answers the place after its text. What does not fit is cut off.
 
 ghost use mathlib.Core.Path.{_≡_};
-ghost use mathlib.Core.List.{[], _∷_, _++_};
+ghost use mathlib.Core.List.{[], _∷_, _++_, map};
 ghost use Prim.Native.Nat.{_+_, _%_};
-ghost use Rattle.machine.specs.Program.{decimal, space, stepLine, lastLine, refusedLine};
+ghost use Rattle.machine.specs.Program.{decimal, space, stepLine, stepLines, lastLine, refusedLine};
+ghost use Rattle.words.specs.Answers.{answerOf};
 ghost use Rattle.listing.specs.Text.{written, writes, stepStart, openingText};
 use machine::State;
 use words::Answer;
+use words::answers;
 
 const SPACE: u8 = 32;
 
@@ -86,6 +88,27 @@ pub fn put_step_line(out: &mut [u8], at: usize, number: usize, a: Answer) -> usi
     let q = put_number(out, p, a.pairs as u64);
     let s = put_number(out, q, a.payload as u64);
     put_byte(out, s, LINE_FEED)
+}
+
+fn put_answer(out: &mut [u8], at: usize, number: usize, w: u64) -> usize
+    ensures { λ r. ⌜ written (now (out .exit)) r ≡ writes (stepLine number (answerOf w)) (written (now (out .entry)) at) ⌝ }
+{
+    let a = answers::unpack_answer(w);
+    put_step_line(out, at, number, a)
+}
+
+// A line for each answer word, the first of which has that number.
+pub fn put_step_lines(out: &mut [u8], at: usize, number: u32, answers: &[u64]) -> usize
+    ensures { λ r. ⌜ written (now (out .exit)) r ≡ writes (stepLines number (map answerOf (now (answers .entry)))) (written (now (out .entry)) at) ⌝ }
+{
+    let first = number as usize;
+    let mut p = at;
+    let mut i = 0;
+    while i < answers.len() {
+        p = put_answer(out, p, first + i, answers[i]);
+        i += 1;
+    }
+    p
 }
 
 pub fn put_opening_line(out: &mut [u8], at: usize, pages: u16, stamp: u32) -> usize

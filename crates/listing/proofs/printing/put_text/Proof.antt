@@ -1,14 +1,15 @@
 use Prim.Native.Nat.{_-_}
 use mathlib.Core.Path.{_≡_}
-use lib.ListN.{length}
-use Rattle.listing.specs.Text.{written}
-use Rattle.listing.proofs.Text.{Copying}
+use mathlib.Core.List.{[], _∷_}
+use lib.ListN.{length, getD}
+use Rattle.listing.specs.Text.{written, writes}
+use Rattle.laws.proofs.Turns.{Turning}
 use Rattle.listing.proofs.Text.{printing}
 use Rattle.listing.proofs.printing.put_text.Statement.{statement}
 use Rattle.listing.proofs.printing.put_text.Tie as tie
 
 abbrev Inv-loop : tie.InvT-loop
-Inv-loop out₀ at text p₀ i₀ out p i = (length out ≡ length out₀) × Copying text (written out₀ at) i (written out p)
+Inv-loop out₀ at text p₀ i₀ out p i = (length out ≡ length out₀) × Turning (λ k. writes (getD text k 0 ∷ [])) (length text) i (written out₀ at) (written out p)
 
 abbrev μ-loop : tie.MeasureT-loop
 μ-loop out₀ at text p₀ i₀ out p i = length text - i

@@ -2,8 +2,7 @@ use Prim.Native.Nat.{_-_}
 use mathlib.Core.Path.{_≡_}
 use lib.ListN.{length, set}
 use Rattle.laws.proofs.Turns.{Turning}
-use Rattle.listing.specs.File.{wordAt}
-use Rattle.listing.specs.File.{wordsRead}
+use Rattle.listing.specs.File.{wordAt, wordsRead}
 use Rattle.laws.proofs.Rules.{turns}
 use Rattle.listing.proofs.reading.read_words.Statement.{statement}
 use Rattle.listing.proofs.reading.read_words.Tie as tie
