@@ -3,3 +3,4 @@ pub mod Rows
 pub mod Memory
 pub mod Undo
 pub mod Copies
+pub mod Make

@@ -13,3 +13,4 @@ pub mod pages;
 pub mod references;
 pub mod registers;
 pub mod undo;
+pub mod make;

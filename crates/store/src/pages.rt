@@ -4,17 +4,25 @@ ghost use mathlib.Core.Path.{_≡_};
 ghost use Prim.Native.Nat.{_*_};
 ghost use lib.ListN.{getD};
 ghost use Rattle.laws.specs.Loops.{seek};
-ghost use Rattle.store.specs.Pages.{hasLink, lowestFree, newestPage, livePage, fill, freeCount, isLast, slotCount};
+ghost use Rattle.store.specs.Pages.{hasLink, isFree, lowestFree, newestPage, livePage, fill, freeCount, isLast, slotCount};
 use crate::cells;
 use laws::Sought;
-use words::heap::{STAMP_AT, TAG_AT};
+use words::heap::STAMP_AT;
+use words::heap::TAG_AT;
+
+// the bit of a link that says whether there is a next page
+const HAS_NEXT_AT: u64 = 134217728;
 
 // The link word of page p. A page past the end has none, and for it p * 16 might not fit a usize.
 pub fn link(heap: &[u64], p: usize) -> u64
     ensures { λ r. ⌜ r ≡ getD (now (heap .entry)) (p * 16) 0 ⌝ }
 {
     let last = heap.len() / 16;
-    if p <= last { cells::word(heap, p * 16) } else { 0 }
+    if p <= last {
+        cells::word(heap, p * 16)
+    } else {
+        0
+    }
 }
 
 // The mark of that link.
@@ -22,7 +30,11 @@ pub fn link_mark(marks: &[u8], p: usize) -> u8
     ensures { λ r. ⌜ r ≡ getD (now (marks .entry)) (p * 16) 0 ⌝ }
 {
     let last = marks.len() / 16;
-    if p <= last { cells::mark(marks, p * 16) } else { 0 }
+    if p <= last {
+        cells::mark(marks, p * 16)
+    } else {
+        0
+    }
 }
 
 // The first page with this link word.
@@ -60,7 +72,11 @@ pub fn live_page(heap: &[u64], turned: &[u8], first: u16, pages: u16, stamp: u32
     let Sought::At(p) = newest_page(heap, first, pages, stamp) else {
         return Sought::Nowhere;
     };
-    if link_mark(turned, p) == 0 { Sought::At(p) } else { Sought::Nowhere }
+    if link_mark(turned, p) == 0 {
+        Sought::At(p)
+    } else {
+        Sought::Nowhere
+    }
 }
 
 // How many words of page p are filled, from word 1 on.
@@ -82,6 +98,12 @@ pub fn fill(heap: &[u64], p: usize) -> usize
     i
 }
 
+fn is_free(heap: &[u64], p: usize) -> bool
+    ensures { λ r. ⌜ r ≡ isFree (now (heap .entry)) p ⌝ }
+{
+    link(heap, p) == 0
+}
+
 pub fn free_count(heap: &[u64], first: u16, pages: u16) -> usize
     ensures { λ r. ⌜ r ≡ freeCount first pages (now (heap .entry)) ⌝ }
 {
@@ -89,7 +111,7 @@ pub fn free_count(heap: &[u64], first: u16, pages: u16) -> usize
     let end = p + pages as usize;
     let mut free: usize = 0;
     while p < end {
-        if link(heap, p) == 0 {
+        if is_free(heap, p) {
             free += 1;
             p += 1;
             continue;
@@ -97,4 +119,39 @@ pub fn free_count(heap: &[u64], first: u16, pages: u16) -> usize
         p += 1;
     }
     free
+}
+
+// Is this the link of a region's newest page: a link without a next page?
+pub fn is_last(w: u64) -> bool
+    ensures { λ r. ⌜ r ≡ isLast w ⌝ }
+{
+    if w == 0 {
+        false
+    } else {
+        w / HAS_NEXT_AT % 2 == 0
+    }
+}
+
+fn ends_region(heap: &[u64], p: usize) -> bool
+    ensures { λ r. ⌜ r ≡ isLast (getD (now (heap .entry)) (p * 16) 0) ⌝ }
+{
+    is_last(link(heap, p))
+}
+
+// The slots taken: each region has one newest page.
+pub fn slot_count(heap: &[u64], first: u16, pages: u16) -> usize
+    ensures { λ r. ⌜ r ≡ slotCount first pages (now (heap .entry)) ⌝ }
+{
+    let mut p = first as usize;
+    let end = p + pages as usize;
+    let mut slots: usize = 0;
+    while p < end {
+        if ends_region(heap, p) {
+            slots += 1;
+            p += 1;
+            continue;
+        }
+        p += 1;
+    }
+    slots
 }

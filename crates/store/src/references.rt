@@ -5,8 +5,8 @@ ghost use Prim.Native.Nat.{_*_, _/_, _^_};
 ghost use lib.ListN.{getD};
 ghost use Rattle.store.specs.Pages.{pageOf, liveRef};
 use crate::pages;
-use words::heap::STAMP_AT;
 use words::Ref;
+use words::heap::STAMP_AT;
 
 // tag 6, a link's, above the 32 bits of a stamp
 const LINK_TAG: u64 = 25769803776;
@@ -22,7 +22,11 @@ fn tag_and_stamp(heap: &[u64], p: usize) -> u64
 pub fn page_of(heap: &[u64], turned: &[u8], p: usize, stamp: u32) -> bool
     ensures { λ r. ⌜ r ≡ pageOf (now (heap .entry)) (now (turned .entry)) p stamp ⌝ }
 {
-    if tag_and_stamp(heap, p) == LINK_TAG + stamp as u64 { pages::link_mark(turned, p) == 0 } else { false }
+    if tag_and_stamp(heap, p) == LINK_TAG + stamp as u64 {
+        pages::link_mark(turned, p) == 0
+    } else {
+        false
+    }
 }
 
 pub fn live(heap: &[u64], turned: &[u8], r: Ref) -> bool

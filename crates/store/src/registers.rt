@@ -15,7 +15,11 @@ pub fn copy_number(tables: &[u64]) -> u8
 pub fn register(tables: &[u64], n: u8, r: u8) -> u64
     ensures { λ w. ⌜ w ≡ registerAt (now (tables .entry)) n r ⌝ }
 {
-    if n == 0 { 0 } else { cells::word(tables, n as usize * 32 + r as usize - 30) }
+    if n == 0 {
+        0
+    } else {
+        cells::word(tables, n as usize * 32 + r as usize - 30)
+    }
 }
 
 pub fn set_register(tables: &mut [u64], n: u8, r: u8, w: u64)

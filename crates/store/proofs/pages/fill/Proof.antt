@@ -20,14 +20,14 @@ fill-spec =
     (tie.spec
     Inv-loop
     μ-loop
-    (λ c. search fills) -- returns
-    (λ c. search fills) -- mul-start
-    (λ c. search fills) -- add-start
-    (λ c. search fills) -- loop-holds
-    (λ c. search fills) -- add-word
-    (λ c κs. search fills) -- word-requires
-    (λ c. search fills) -- returns-2
-    (λ c. search fills) -- add-i
-    (λ c. search fills) -- loop-less
-    (λ c. search fills) -- loop-again
-    (λ c. search fills)) -- returns-3
+    (λ c. search fills)  -- returns
+    (λ c. search fills)  -- mul-start
+    (λ c. search fills)  -- add-start
+    (λ c. search fills)  -- loop-holds
+    (λ c. search fills)  -- add-word
+    (λ c κs. search fills)  -- word-requires
+    (λ c. search fills)  -- returns-2
+    (λ c. search fills)  -- add-i
+    (λ c. search fills)  -- loop-less
+    (λ c. search fills)  -- loop-again
+    (λ c. search fills))  -- returns-3

@@ -3,8 +3,6 @@ use Rattle.laws.proofs.Turns.{Counting}
 use Rattle.store.specs.Pages.{isFree}
 use Rattle.store.specs.Pages.{freeCount}
 use Rattle.store.proofs.Links.{counts}
-use Rattle.laws.proofs.Via.{test-yes}
-use Rattle.laws.proofs.Turns.{counting-yes}
 use Rattle.store.proofs.pages.free_count.Statement.{statement}
 use Rattle.store.proofs.pages.free_count.Tie as tie
 
@@ -21,14 +19,14 @@ free-count-spec =
     (tie.spec
     Inv-loop
     μ-loop
-    (λ c. search counts) -- add-end
-    (λ c. search counts) -- loop-holds
-    (λ c κs. search counts) -- link-requires
-    (λ c. search counts) -- add-free
-    (λ c. search counts) -- add-p
-    (λ c. search counts) -- loop-less
-    (λ c. counting-yes _ _ _ _ _ (c .before .before .before .loop .inv) (c .before .before .loop-test .taken) (test-yes _ _ _ (c .before .link .ensures) (c .if1 .taken))) -- loop-again
-    (λ c. search counts) -- add-p-2
-    (λ c. search counts) -- loop-less-2
-    (λ c. search counts) -- loop-again-2
-    (λ c. search counts)) -- returns
+    (λ c. search counts)  -- add-end
+    (λ c. search counts)  -- loop-holds
+    (λ c κs. search counts)  -- is-free-requires
+    (λ c. search counts)  -- add-free
+    (λ c. search counts)  -- add-p
+    (λ c. search counts)  -- loop-less
+    (λ c. search counts)  -- loop-again
+    (λ c. search counts)  -- add-p-2
+    (λ c. search counts)  -- loop-less-2
+    (λ c. search counts)  -- loop-again-2
+    (λ c. search counts))  -- returns

@@ -1,5 +1,4 @@
-use Rattle.laws.proofs.Rules.{laws}
-use Rattle.store.proofs.Links.{no-link}
+use Rattle.store.proofs.Links.{links}
 use Rattle.store.proofs.pages.link.Statement.{statement}
 use Rattle.store.proofs.pages.link.Tie as tie
 
@@ -7,7 +6,7 @@ pub link-spec : {M : Type 1} → statement M
 link-spec =
     tie.close
     (tie.spec
-    (λ c. search laws) -- mul-word
-    (λ c κs. search laws) -- word-requires
-    (λ c. search laws) -- returns
-    (λ c. search (laws, no-link))) -- returns-2
+    (λ c. search links)  -- mul-word
+    (λ c κs. search links)  -- word-requires
+    (λ c. search links)  -- returns
+    (λ c. search links))  -- returns-2

@@ -8,10 +8,10 @@ unfolding livePage
 live-page-spec =
     tie.close
     (tie.spec
-    (λ c κs. search sought) -- newest-page-requires
-    (λ c. search sought) -- enum-known-p
-    (λ c. search sought) -- enum-told
-    (λ c. search sought) -- returns
-    (λ c κs. search sought) -- link-mark-requires
-    (λ c. search sought) -- returns-2
-    (λ c. search sought)) -- returns-3
+    (λ c κs. search sought)  -- newest-page-requires
+    (λ c. search sought)  -- enum-known-p
+    (λ c. search sought)  -- enum-told
+    (λ c. search sought)  -- returns
+    (λ c κs. search sought)  -- link-mark-requires
+    (λ c. search sought)  -- returns-2
+    (λ c. search sought))  -- returns-3

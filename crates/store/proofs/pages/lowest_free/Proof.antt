@@ -8,5 +8,5 @@ unfolding lowestFree
 lowest-free-spec =
     tie.close
     (tie.spec
-    (λ c κs. search laws) -- first-with-requires
-    (λ c. search laws)) -- returns
+    (λ c κs. search laws)  -- first-with-requires
+    (λ c. search laws))  -- returns

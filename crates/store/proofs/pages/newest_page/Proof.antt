@@ -9,8 +9,8 @@ unfolding linkWord newestPage
 newest-page-spec =
     tie.close
     (tie.spec
-    (λ c. search laws) -- mul-first-with
-    (λ c. search laws) -- mul-first-with-2
-    (λ c. search laws) -- add-first-with
-    (λ c κs. search laws) -- first-with-requires
-    (λ c. search laws)) -- returns
+    (λ c. search laws)  -- mul-first-with
+    (λ c. search laws)  -- mul-first-with-2
+    (λ c. search laws)  -- add-first-with
+    (λ c κs. search laws)  -- first-with-requires
+    (λ c. search laws))  -- returns

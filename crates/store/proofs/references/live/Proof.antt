@@ -8,6 +8,6 @@ unfolding liveRef
 live-spec =
     tie.close
     (tie.spec
-    (λ c. search laws) -- cast-address
-    (λ c κs. search laws) -- page-of-requires
-    (λ c. search laws)) -- returns
+    (λ c. search laws)  -- cast-address
+    (λ c κs. search laws)  -- page-of-requires
+    (λ c. search laws))  -- returns

@@ -8,8 +8,8 @@ unfolding pageOf
 page-of-spec =
     tie.close
     (tie.spec
-    (λ c κs. search laws) -- tag-and-stamp-requires
-    (λ c. search laws) -- add-if1
-    (λ c κs. search laws) -- link-mark-requires
-    (λ c. search laws) -- returns
-    (λ c. search laws)) -- returns-2
+    (λ c κs. search laws)  -- tag-and-stamp-requires
+    (λ c. search laws)  -- add-if1
+    (λ c κs. search laws)  -- link-mark-requires
+    (λ c. search laws)  -- returns
+    (λ c. search laws))  -- returns-2

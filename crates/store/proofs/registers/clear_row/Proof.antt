@@ -21,10 +21,10 @@ clear-row-spec =
     (tie.spec
     Inv-loop
     μ-loop
-    (λ c. search turns) -- loop-holds
-    (λ c κs. search turns) -- set-register-requires
-    (λ c. search turns) -- add-r
-    (λ c. search turns) -- loop-less
-    (λ c. search turns) -- loop-again
-    (λ c. search turns) -- same-length
-    (λ c. search turns)) -- returns
+    (λ c. search turns)  -- loop-holds
+    (λ c κs. search turns)  -- set-register-requires
+    (λ c. search turns)  -- add-r
+    (λ c. search turns)  -- loop-less
+    (λ c. search turns)  -- loop-again
+    (λ c. search turns)  -- same-length
+    (λ c. search turns))  -- returns

@@ -8,6 +8,6 @@ unfolding present
 copy-number-spec =
     tie.close
     (tie.spec
-    (λ c κs. search laws) -- word-requires
-    (λ c. search laws) -- cast-result
-    (λ c. search laws)) -- returns
+    (λ c κs. search laws)  -- word-requires
+    (λ c. search laws)  -- cast-result
+    (λ c. search laws))  -- returns

@@ -8,9 +8,9 @@ unfolding registerAt
 register-spec =
     tie.close
     (tie.spec
-    (λ c. search laws) -- mul-word
-    (λ c. search laws) -- add-word
-    (λ c. search laws) -- sub-word
-    (λ c κs. search laws) -- word-requires
-    (λ c. search laws) -- returns
-    (λ c. search laws)) -- returns-2
+    (λ c. search laws)  -- mul-word
+    (λ c. search laws)  -- add-word
+    (λ c. search laws)  -- sub-word
+    (λ c κs. search laws)  -- word-requires
+    (λ c. search laws)  -- returns
+    (λ c. search laws))  -- returns-2

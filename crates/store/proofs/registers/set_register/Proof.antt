@@ -8,10 +8,10 @@ unfolding registerSet
 set-register-spec =
     tie.close
     (tie.spec
-    (λ c. search laws) -- returns
-    (λ c. search laws) -- mul-put
-    (λ c. search laws) -- add-put
-    (λ c. search laws) -- sub-put
-    (λ c κs. search laws) -- put-requires
-    (λ c. search laws) -- same-length
-    (λ c. search laws)) -- returns-2
+    (λ c. search laws)  -- returns
+    (λ c. search laws)  -- mul-put
+    (λ c. search laws)  -- add-put
+    (λ c. search laws)  -- sub-put
+    (λ c κs. search laws)  -- put-requires
+    (λ c. search laws)  -- same-length
+    (λ c. search laws))  -- returns-2

@@ -1,0 +1,10 @@
+pub mod Filling
+pub mod Following
+pub mod Placing
+pub mod FoundWords
+pub mod Operands
+pub mod Building
+pub mod Meeting
+pub mod Named
+pub mod Cycle
+pub mod Whole
