@@ -89,39 +89,32 @@ module _ (n : ℕ) (w w₁ w₂ : Written) where
 -- ---- lines
 
 module _ (w w₁ w₂ w₃ w₄ : Written) where
+  three : (a b c : List ℕ) → w₁ ≡ writes a w → w₂ ≡ writes b w₁ → w₃ ≡ writes c w₂ → w₃ ≡ writes (a ++ b ++ c) w
+  three a b c e f g = and-then (a ++ b) c w w₂ w₃ g (and-then a b w w₁ w₂ f e)
+
+  four : (a b c d : List ℕ) → w₁ ≡ writes a w → w₂ ≡ writes b w₁ → w₃ ≡ writes c w₂ → w₄ ≡ writes d w₃ → w₄ ≡ writes (a ++ b ++ c ++ d) w
+  four a b c d e f g h = and-then (a ++ b ++ c) d w w₃ w₄ h (three a b c e f g)
+
   pub step-started : (n : ℕ) (a : Answer) → w₁ ≡ writes (decimal n) w → w₂ ≡ writes (space ∷ decimal (a .status)) w₁ → w₃ ≡ writes (space ∷ decimal (a .kind)) w₂ →
       w₃ ≡ writes (stepStart n a) w
   unfolding stepStart
-  step-started n a e f g =
-      and-then (decimal n ++ (space ∷ decimal (a .status))) (space ∷ decimal (a .kind)) w w₂ w₃ g
-      (and-then (decimal n) (space ∷ decimal (a .status)) w w₁ w₂ f e)
+  step-started n a e f g = three _ _ _ e f g
 
   pub step-lined : (n : ℕ) (a : Answer) → w₁ ≡ writes (stepStart n a) w → w₂ ≡ writes (space ∷ decimal (a .pairs)) w₁ →
       w₃ ≡ writes (space ∷ decimal (a .payload)) w₂ → w₄ ≡ writes (lineFeed ∷ []) w₃ → w₄ ≡ writes (stepLine n a) w
   unfolding stepStart stepLine
-  step-lined n a e f g h =
-      and-then (stepStart n a ++ (space ∷ decimal (a .pairs)) ++ (space ∷ decimal (a .payload))) (lineFeed ∷ []) w w₃ w₄ h
-      (and-then (stepStart n a ++ (space ∷ decimal (a .pairs))) (space ∷ decimal (a .payload)) w w₂ w₃ g
-      (and-then (stepStart n a) (space ∷ decimal (a .pairs)) w w₁ w₂ f e))
+  step-lined n a e f g h = four _ _ _ _ e f g h
 
   pub opened : (pages stamp : ℕ) → w₁ ≡ writes (112 ∷ 97 ∷ 103 ∷ 101 ∷ 115 ∷ space ∷ decimal pages) w →
       w₂ ≡ writes (space ∷ 115 ∷ 116 ∷ 97 ∷ 109 ∷ 112 ∷ space ∷ decimal stamp) w₁ → w₃ ≡ writes (lineFeed ∷ []) w₂ → w₃ ≡ writes (openingText pages stamp) w
   unfolding openingText
-  opened pages stamp e f g =
-      and-then (112 ∷ 97 ∷ 103 ∷ 101 ∷ 115 ∷ space ∷ decimal pages ++ (space ∷ 115 ∷ 116 ∷ 97 ∷ 109 ∷ 112 ∷ space ∷ decimal stamp)) (lineFeed ∷ []) w w₂ w₃ g
-      (and-then (112 ∷ 97 ∷ 103 ∷ 101 ∷ 115 ∷ space ∷ decimal pages) (space ∷ 115 ∷ 116 ∷ 97 ∷ 109 ∷ 112 ∷ space ∷ decimal stamp) w w₁ w₂ f e)
+  opened pages stamp e f g = three _ _ _ e f g
 
   pub closed : (s : State) → w₁ ≡ writes (102 ∷ 114 ∷ 101 ∷ 101 ∷ space ∷ decimal (s .free)) w →
       w₂ ≡ writes (space ∷ 99 ∷ 104 ∷ 111 ∷ 105 ∷ 99 ∷ 101 ∷ 115 ∷ space ∷ decimal (s .choices)) w₁ →
       w₃ ≡ writes (space ∷ 110 ∷ 101 ∷ 120 ∷ 116 ∷ space ∷ decimal (s .next)) w₂ → w₄ ≡ writes (lineFeed ∷ []) w₃ → w₄ ≡ writes (lastLine s) w
   unfolding lastLine
-  closed s e f g h =
-      and-then (102 ∷ 114 ∷ 101 ∷ 101 ∷ space ∷ decimal (s .free)
-      ++ (space ∷ 99 ∷ 104 ∷ 111 ∷ 105 ∷ 99 ∷ 101 ∷ 115 ∷ space ∷ decimal (s .choices)) ++ (space ∷ 110 ∷ 101 ∷ 120 ∷ 116 ∷ space ∷ decimal (s .next)))
-      (lineFeed ∷ []) w w₃ w₄ h
-      (and-then (102 ∷ 114 ∷ 101 ∷ 101 ∷ space ∷ decimal (s .free) ++ (space ∷ 99 ∷ 104 ∷ 111 ∷ 105 ∷ 99 ∷ 101 ∷ 115 ∷ space ∷ decimal (s .choices)))
-      (space ∷ 110 ∷ 101 ∷ 120 ∷ 116 ∷ space ∷ decimal (s .next)) w w₂ w₃ g
-      (and-then (102 ∷ 114 ∷ 101 ∷ 101 ∷ space ∷ decimal (s .free)) (space ∷ 99 ∷ 104 ∷ 111 ∷ 105 ∷ 99 ∷ 101 ∷ 115 ∷ space ∷ decimal (s .choices)) w w₁ w₂ f e))
+  closed s e f g h = four _ _ _ _ e f g h
 
 -- the opening line of a file's first word
 pub opening-is : (first : ℕ) → openingText (pagesOf first) (firstStamp first) ≡ openingLine first
