@@ -1,7 +1,7 @@
 // Choice points: a copy is saved, the newest saved copy is dropped, or it becomes the present one.
 
 ghost use mathlib.Core.Path.{_≡_};
-ghost use Rattle.words.specs.Answers.{plain as plainly};
+ghost use Rattle.words.specs.Answers as answers;
 ghost use Rattle.store.specs.Copies.{pushAnswer, pushTables, dropAnswer, rowDropped, backtrackMemory, backtrackTables, cutMemory, cutTables};
 ghost use Rattle.store.specs.Memory.{memory};
 use crate::cells;
@@ -12,10 +12,10 @@ use words::Answer;
 
 // A status and nothing else.
 pub fn plain(status: u8) -> Answer
-    ensures { λ r. ⌜ r ≡ plainly status ⌝ }
+    ensures { λ r. ⌜ r ≡ answers.plain status ⌝ }
 {
     Answer {
-        status: status,
+        status,
         kind: 0,
         pairs: 0,
         payload: 0,

@@ -1,7 +1,7 @@
 // Kill: a region leaves the present copy. What the present copy brought to it goes, and what saved copies have stays held.
 
 ghost use mathlib.Core.Path.{_≡_};
-ghost use Rattle.store.specs.Copies.{heldIn, stampAnswer, stampKilled, killAnswer, killMemory};
+ghost use Rattle.store.specs.Copies.{heldAt, stampAnswer, stampKilled, killAnswer, killMemory};
 ghost use Rattle.store.specs.Memory.{memory};
 use crate::copies::plain;
 use crate::pages::live_page;
@@ -13,8 +13,8 @@ use words::registers::unpack_register;
 use words::{Answer, Held, Register};
 
 // What register a of the present copy holds.
-fn held_in(tables: &[u64], a: u8) -> Held
-    ensures { λ r. ⌜ r ≡ heldIn (now (tables .entry)) a ⌝ }
+pub fn held(tables: &[u64], a: u8) -> Held
+    ensures { λ r. ⌜ r ≡ heldAt (now (tables .entry)) a ⌝ }
 {
     let n = copy_number(tables);
     unpack_register(register(tables, n, a))
@@ -37,7 +37,7 @@ pub fn kill_region(heap: &mut [u64], tables: &[u64], born: &mut [u8], turned: &m
     ensures memory { λ _. ⌜ memory (now (heap .exit)) (now (born .exit)) (now (turned .exit)) ≡ killMemory first pages (now (tables .entry)) a (memory (now (heap .entry)) (now (born .entry)) (now (turned .entry))) ⌝ }
 {
     let n = copy_number(tables);
-    let Held::Holds(r) = held_in(tables, a) else {
+    let Held::Holds(r) = held(tables, a) else {
         return plain(3);
     };
     match r {

@@ -9,7 +9,7 @@ kill-region-spec =
     tie.close
     (tie.spec
     (λ c κs. search killing) -- copy-number-requires
-    (λ c κs. search killing) -- held-in-requires
+    (λ c κs. search killing) -- held-requires
     (λ c. search killing) -- enum-known-r
     (λ c. search killing) -- enum-told
     (λ c κs. search killing) -- plain-requires

@@ -1,9 +1,9 @@
 use Rattle.store.proofs.Copying.{killing}
-use Rattle.store.proofs.kill.held_in.Statement.{statement}
-use Rattle.store.proofs.kill.held_in.Tie as tie
+use Rattle.store.proofs.kill.held.Statement.{statement}
+use Rattle.store.proofs.kill.held.Tie as tie
 
-pub held-in-spec : {M : Type 1} → statement M
-held-in-spec =
+pub held-spec : {M : Type 1} → statement M
+held-spec =
     tie.close
     (tie.spec
     (λ c κs. search killing) -- copy-number-requires
