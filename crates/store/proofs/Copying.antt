@@ -1,7 +1,7 @@
 -- The steps of a proof that code saves, drops and kills as the definitions say. n is what the code read as the number of the present copy, k.
 use Prim.Native.Nat.{ℕ, _+_, _-_, _<_, _≤_}
 use mathlib.Core.List.{List}
-use mathlib.Core.Path.{_≡_, sym, ap, subst, _∙_}
+use mathlib.Core.Path.{_≡_, ap, subst}
 use lib.Dec.{ltb}
 use lib.ListN.{set}
 use Rattle.laws.specs.Pick.{pick}
@@ -74,7 +74,7 @@ module _ {A : Type 0} (r z : A) (k h : Held) (f : ℕ → A) (e : k ≡ h) where
     unfolding onRegion
     at-term c q o = rw (← e, p, q) o
 
-pub ruleset copying = (rows, yes-lt-to, no-lt-to, via-before, row-pushed, row-cut, row-dropped, via-undone)
+pub ruleset pushing = (rows, yes-lt-to, no-lt-to, row-pushed)
 
 pub ruleset dropping = (needs, yes-lt-of, no-lt-of, via-before, row-dropped, row-cut, via-undone)
 

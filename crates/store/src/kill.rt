@@ -25,7 +25,7 @@ fn kill_stamp(heap: &mut [u64], born: &mut [u8], turned: &mut [u8], first: u16, 
     ensures answer { λ r. ⌜ r ≡ stampAnswer first pages s (memory (now (heap .entry)) (now (born .entry)) (now (turned .entry))) ⌝ }
     ensures memory { λ _. ⌜ memory (now (heap .exit)) (now (born .exit)) (now (turned .exit)) ≡ stampKilled first pages n s (memory (now (heap .entry)) (now (born .entry)) (now (turned .entry))) ⌝ }
 {
-    let Sought::At(p) = live_page(heap, turned, first, pages, s) else {
+    let Sought::At(_) = live_page(heap, turned, first, pages, s) else {
         return plain(3);
     };
     undo(heap, born, turned, first, pages, Which::Stamped(s), n, n);
