@@ -68,8 +68,8 @@ module _ (first pages j last : ℕ) (which : Which) (m : Memory) where
       record {
         heap = record {
           heap = λ k.
-          w ∙ links-at first pages j which cells p l h .heap (omega (tests, cells-lengths first pages j last which m .heap))
-          ∙ rw (s .heap, s .born, s .turned, link-kept (bits 19 8 (heapAt m a)) .born);
+              w ∙ links-at first pages j which cells p l h .heap (omega (tests, cells-lengths first pages j last which m .heap))
+              ∙ rw (s .heap, s .born, s .turned, link-kept (bits 19 8 (heapAt m a)) .born);
         };
         born = λ k. marks-at first pages j last which links p l h .born (omega (tests, long .born)) ∙ rw (← w, b);
         turned = λ k. marks-at first pages j last which links p l h .turned (omega (tests, long .turned)) ∙ rw (← w, u);

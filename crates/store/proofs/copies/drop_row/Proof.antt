@@ -8,7 +8,7 @@ unfolding rowDropped
 drop-row-spec =
     tie.close
     (tie.spec
-    (λ c κs. search rows) -- clear-row-requires
-    (λ c κs. search rows) -- put-requires
-    (λ c. search rows) -- same-length
-    (λ c. search rows)) -- returns
+    (λ c κs. search rows)  -- clear-row-requires
+    (λ c κs. search rows)  -- put-requires
+    (λ c. search rows)  -- same-length
+    (λ c. search rows))  -- returns

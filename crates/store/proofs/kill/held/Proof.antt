@@ -6,7 +6,7 @@ pub held-spec : {M : Type 1} → statement M
 held-spec =
     tie.close
     (tie.spec
-    (λ c κs. search killing) -- copy-number-requires
-    (λ c κs. search killing) -- register-requires
-    (λ c κs. search killing) -- unpack-register-requires
-    (λ c. search killing)) -- returns
+    (λ c κs. search killing)  -- copy-number-requires
+    (λ c κs. search killing)  -- register-requires
+    (λ c κs. search killing)  -- unpack-register-requires
+    (λ c. search killing))  -- returns
