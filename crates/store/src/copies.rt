@@ -24,7 +24,7 @@ pub fn plain(status: u8) -> Answer
     }
 }
 
-// The registers alone are saved: what the present copy has, the marks tell apart from what later copies bring.
+// The registers alone are saved: what the present copy has, the marks tell apart from what later copies bring. A mark has 8 bits, so there is no copy 256.
 pub fn push_choice(tables: &mut [u64], choices: u8) -> Answer
     ensures answer { λ r. ⌜ r ≡ pushAnswer choices (now (tables .entry)) ⌝ }
     ensures tables { λ _. ⌜ now (tables .exit) ≡ pushTables choices (now (tables .entry)) ⌝ }
