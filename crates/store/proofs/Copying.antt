@@ -1,7 +1,7 @@
 -- The steps of a proof that code saves, drops and kills as the definitions say. n is what the code read as the number of the present copy, k.
 use Prim.Native.Nat.{ℕ, _+_, _-_, _<_, _≤_}
 use mathlib.Core.List.{List}
-use mathlib.Core.Path.{_≡_, sym, ap, subst, _∙_}
+use mathlib.Core.Path.{_≡_, ap, subst}
 use lib.Dec.{ltb}
 use lib.ListN.{set}
 use Rattle.laws.specs.Pick.{pick}
@@ -14,7 +14,7 @@ use Rattle.words.specs.declared.Register.{Register}
 use Rattle.words.specs.declared.Register.the-variants.{Empty, Region, Term}
 use Rattle.words.specs.Words.{unpackRegister}
 use Rattle.store.specs.declared.Which.{Which}
-use Rattle.store.specs.Copies.{rowDropped, stampKilled, onRegion, heldIn}
+use Rattle.store.specs.Copies.{rowDropped, stampKilled, onRegion, heldAt}
 use Rattle.store.specs.Memory.{Memory}
 use Rattle.store.specs.Rows.{present, registerAt, rowCopied}
 use Rattle.store.specs.Undo.{undone}
@@ -23,11 +23,11 @@ use Rattle.store.proofs.Sought.{at-sought, at-nowhere}
 
 -- a test with what a call returned on its right
 module _ {A : Type 0} (r x y : A) (m n k : ℕ) (e : k ≡ n) where
-  pub yes-lt-by : m < k → r ≡ x → r ≡ pick (ltb m n) x y
-  yes-lt-by h = yes-lt r x y m n (subst (λ (i : ℕ). m < i) e h)
+  pub yes-lt-to : m < k → r ≡ x → r ≡ pick (ltb m n) x y
+  yes-lt-to h = yes-lt r x y m n (subst (λ (i : ℕ). m < i) e h)
 
-  pub no-lt-by : k ≤ m → r ≡ y → r ≡ pick (ltb m n) x y
-  no-lt-by h = no-lt r x y m n (subst (λ (i : ℕ). i ≤ m) e h)
+  pub no-lt-to : k ≤ m → r ≡ y → r ≡ pick (ltb m n) x y
+  no-lt-to h = no-lt r x y m n (subst (λ (i : ℕ). i ≤ m) e h)
 
 module _ (k n : ℕ) (e : k ≡ n) where
   pub via-before : k - 1 ≡ n - 1
@@ -49,7 +49,8 @@ pub via-undone : (first pages j j′ last last′ : ℕ) (which which′ : Which
 via-undone first pages j j′ last last′ which which′ m x e p q r = rw (← p, ← q, ← r) e
 
 -- what a register holds
-pub via-held : (t : List ℕ) (n a w : ℕ) (r : Held) → r ≡ unpackRegister 12 w → w ≡ registerAt t n a → n ≡ present t → r ≡ heldIn t a
+pub via-held : (t : List ℕ) (n a w : ℕ) (r : Held) → r ≡ unpackRegister 12 w → w ≡ registerAt t n a → n ≡ present t → r ≡ heldAt t a
+unfolding heldAt
 via-held t n a w r e p q = rw (← q, ← p) e
 
 pub via-killed : (first pages k n s : ℕ) (m x : Memory) → k ≡ n → x ≡ stampKilled first pages k s m → x ≡ stampKilled first pages n s m
@@ -73,7 +74,7 @@ module _ {A : Type 0} (r z : A) (k h : Held) (f : ℕ → A) (e : k ≡ h) where
     unfolding onRegion
     at-term c q o = rw (← e, p, q) o
 
-pub ruleset copying = (rows, yes-lt-by, no-lt-by, via-before, row-pushed, row-cut, row-dropped, via-undone)
+pub ruleset pushing = (rows, yes-lt-to, no-lt-to, row-pushed)
 
 pub ruleset dropping = (needs, yes-lt-of, no-lt-of, via-before, row-dropped, row-cut, via-undone)
 

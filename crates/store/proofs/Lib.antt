@@ -4,7 +4,6 @@ pub mod Fills
 pub mod Sought
 pub mod Undoing
 pub mod Copying
-pub mod Stores
 pub mod UndoPasses
 pub mod UndoWhole
 pub mod Making

@@ -1,20 +1,21 @@
 -- What each pass of the undo leaves at an address, said of the memory that it was given: a cell, a link word, a link's marks. All else stays, and so do the lengths.
-use mathlib.Core.Bool.{Bool, true, false}
+use mathlib.Core.Bool.{Bool, false}
 use mathlib.Core.List.{List}
 use mathlib.Core.Logic.{_⊎_, inl, inr}
-use mathlib.Core.Path.{_≡_, refl, sym, ap, subst, _∙_}
+use mathlib.Core.Path.{_≡_, refl, ap, subst, _∙_}
 use Prim.Native.Nat.{ℕ, _+_, _-_, _*_, _/_, _%_, _<_, _≤_}
 use lib.Dec.{eqb}
 use lib.ListN.{length, getD, set}
 use borrow.Author.Tests.{ne-eqb}
 use Rattle.laws.specs.Pick.{pick}
 use Rattle.laws.specs.Loops.{run}
+use Rattle.laws.proofs.Stores.{Stores, run-keeps, stores-length, stores-elsewhere, stores-before, stores-there}
 use Rattle.laws.proofs.Tests.{tests}
 use Rattle.words.specs.Fields.{bits}
 use Rattle.store.specs.declared.Which.{Which}
 use Rattle.store.specs.Memory.{Memory, memory}
 use Rattle.store.specs.Undo.{struck, cellWordAfter, cellBornAfter, cellTurnAfter, cellAfter, linkWordAfter, linkAfter, linkBornAfter, linkTurnAfter, markAfter, cellsAfter, linksAfter, marksAfter}
-use Rattle.store.proofs.Stores.{Stores, run-keeps, stores-length, stores-elsewhere, stores-before, stores-there}
+use Rattle.store.proofs.Unturned.{pick-map}
 
 abbrev pub heapAt : Memory → ℕ → ℕ
 heapAt x a = getD (x .heap) a 0
@@ -58,11 +59,6 @@ pub record MarksAt (which : Which) (j last a : ℕ) (x y : Memory) : Type 0 wher
 
 -- ---- the cells
 
-pick-of : (g : Memory → List ℕ) (b : Bool) (x y : Memory) → g (pick b x y) ≡ pick b (g x) (g y)
-unfolding pick
-pick-of g true x y = refl
-pick-of g false x y = refl
-
 module _ (first pages j last : ℕ) (which : Which) (m : Memory) where
   -- turn i, its address, and whether that is a link's
   abbrev cellOf : ℕ → ℕ
@@ -90,7 +86,7 @@ module _ (first pages j last : ℕ) (which : Which) (m : Memory) where
       ≡ set (g x) (cellOf i) (v (cellOf i) x)) →
       Stores g turn cellOf noCell (λ i. v (cellOf i))
   unfolding cellAfter
-  cell-stores g v h = record { apart = λ i n e. omega tests; turn = λ i x. pick-of g (noCell i) x _ ∙ ap (pick (noCell i) (g x)) (h i x) }
+  cell-stores g v h = record { apart = λ i n e. omega tests; turn = λ i x. pick-map g (noCell i) x _ ∙ ap (pick (noCell i) (g x)) (h i x) }
 
   words : Stores (λ x. x .heap) turn cellOf noCell (λ i. wordAt (cellOf i))
   words = cell-stores (λ x. x .heap) wordAt (λ i x. refl)

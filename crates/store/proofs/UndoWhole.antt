@@ -1,6 +1,6 @@
 -- What the whole undo leaves at an address, said of the memory that it was given.
 use mathlib.Core.Logic.{_⊎_, inl, inr}
-use mathlib.Core.Path.{_≡_, sym, ap, _∙_}
+use mathlib.Core.Path.{_≡_, ap, _∙_}
 use mathlib.Core.List.{List}
 use Prim.Native.Nat.{ℕ, _+_, _*_, _%_, _<_, _≤_}
 use lib.ListN.{length, getD}
@@ -8,8 +8,8 @@ use Rattle.laws.proofs.Tests.{tests}
 use Rattle.words.specs.Fields.{bits}
 use Rattle.store.specs.declared.Which.{Which}
 use Rattle.store.specs.Memory.{Memory}
-use Rattle.store.specs.Undo.{struck, linkWordAfter, linkBornAfter, linkTurnAfter, cellsAfter, linksAfter, marksAfter, undone}
-use Rattle.store.proofs.UndoPasses.{heapAt, bornAt, turnedAt, struckAt, SameLengths, SameAt, CellAt, LinkAt, cells-lengths, cells-at, cells-elsewhere, links-born, links-turned, links-lengths, links-at, links-elsewhere, marks-heap, marks-lengths, marks-at, marks-elsewhere}
+use Rattle.store.specs.Undo.{struck, linkBornAfter, linkTurnAfter, cellsAfter, linksAfter, marksAfter, undone}
+use Rattle.store.proofs.UndoPasses.{heapAt, bornAt, turnedAt, SameLengths, SameAt, CellAt, LinkAt, cells-lengths, cells-at, cells-elsewhere, links-born, links-turned, links-lengths, links-at, links-elsewhere, marks-heap, marks-lengths, marks-at, marks-elsewhere}
 
 lengths-on : (x y z : Memory) → SameLengths x y → SameLengths y z → SameLengths x z
 lengths-on x y z p q = record { heap = q .heap ∙ p .heap; born = q .born ∙ p .born; turned = q .turned ∙ p .turned }
@@ -68,8 +68,8 @@ module _ (first pages j last : ℕ) (which : Which) (m : Memory) where
       record {
         heap = record {
           heap = λ k.
-          w ∙ links-at first pages j which cells p l h .heap (omega (tests, cells-lengths first pages j last which m .heap))
-          ∙ rw (s .heap, s .born, s .turned, link-kept (bits 19 8 (heapAt m a)) .born);
+              w ∙ links-at first pages j which cells p l h .heap (omega (tests, cells-lengths first pages j last which m .heap))
+              ∙ rw (s .heap, s .born, s .turned, link-kept (bits 19 8 (heapAt m a)) .born);
         };
         born = λ k. marks-at first pages j last which links p l h .born (omega (tests, long .born)) ∙ rw (← w, b);
         turned = λ k. marks-at first pages j last which links p l h .turned (omega (tests, long .turned)) ∙ rw (← w, u);

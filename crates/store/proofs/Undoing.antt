@@ -14,6 +14,7 @@ use Rattle.store.specs.declared.Which.{Which}
 use Rattle.store.specs.declared.Which.the-variants.{Marked, Stamped}
 use Rattle.store.specs.Memory.{Memory, memory}
 use Rattle.store.specs.Undo.{struckBy, struck, cellWordAfter, cellBornAfter, cellTurnAfter, linkWordAfter, goneAfter, linkBornAfter, linkTurnAfter, cellsAfter, linksAfter, marksAfter, undone}
+use Rattle.store.proofs.Fills.{memory-is}
 
 -- by the case of what is struck
 module _ (which : Which) (r : Bool) (w u : ℕ) where
@@ -24,10 +25,6 @@ module _ (which : Which) (r : Bool) (w u : ℕ) where
   pub by-stamp : (s k : ℕ) → which ≡ Stamped s → r ≡ eqb k s → k ≡ bits 28 32 w → r ≡ struckBy which w u
   unfolding struckBy
   by-stamp s k e q h = rw (e, ← h) q
-
--- memories with the same lists are the same
-pub memory-is : (h h′ b b′ u u′ : List ℕ) → h ≡ h′ → b ≡ b′ → u ≡ u′ → memory h b u ≡ memory h′ b′ u′
-memory-is h h′ b b′ u u′ x y z = λ i. memory (x i) (y i) (z i)
 
 -- what a call found, where the definition has what it reads
 pub via-struck : (which : Which) (r : Bool) (k w l u : ℕ) → r ≡ struck which k l → k ≡ w → l ≡ u → r ≡ struck which w u
@@ -70,4 +67,4 @@ pub three-passes : (first pages j last : ℕ) (which : Which) (m x y z : Memory)
 unfolding undone
 three-passes first pages j last which m x y z ex ey ez = rw (← ex, ← ey) ez
 
-pub ruleset undoing = (laws, yes, no, by-mark, by-stamp, memory-is, via-struck, cell-stores, via-page, via-gone, link-stores, via-flag, mark-stores, three-passes)
+pub ruleset undoing = (laws, yes, no, by-mark, by-stamp, via-struck, cell-stores, via-page, via-gone, link-stores, via-flag, mark-stores, three-passes)

@@ -6,7 +6,6 @@ use lib.Dec.{eqb, ltb}
 use lib.ListN.{set}
 use Rattle.laws.specs.Pick.{pick}
 use Rattle.words.specs.declared.Answer.{Answer}
-use Rattle.words.specs.declared.Register.{Register}
 use Rattle.words.specs.declared.Register.the-variants.{Empty, Region, Term}
 use Rattle.words.specs.declared.Held.{Held}
 use Rattle.words.specs.declared.Held.the-variants.{Holds, Broken}
@@ -69,8 +68,8 @@ unfoldable pub stampKilled : ℕ → ℕ → ℕ → ℕ → Memory → Memory
 stampKilled first pages n s m = onSought (livePage first pages (m .heap) (m .turned) s) (λ p. undone first pages (Stamped s) n n m) m
 
 -- what register a of the present copy holds; and by the stamp, if it holds a region
-abbrev pub heldIn : List ℕ → ℕ → Held
-heldIn t a = unpackRegister 12 (registerAt t (present t) a)
+unfoldable pub heldAt : List ℕ → ℕ → Held
+heldAt t a = unpackRegister 12 (registerAt t (present t) a)
 
 unfoldable pub onRegion : {A : Type 0} → Held → (ℕ → A) → A → A
 onRegion (Holds Empty) f z = z
@@ -79,7 +78,7 @@ onRegion (Holds (Term r)) f z = z
 onRegion Broken f z = z
 
 unfoldable pub killAnswer : ℕ → ℕ → List ℕ → ℕ → Memory → Answer
-killAnswer first pages t a m = onRegion (heldIn t a) (λ s. stampAnswer first pages s m) (plain 3)
+killAnswer first pages t a m = onRegion (heldAt t a) (λ s. stampAnswer first pages s m) (plain 3)
 
 unfoldable pub killMemory : ℕ → ℕ → List ℕ → ℕ → Memory → Memory
-killMemory first pages t a m = onRegion (heldIn t a) (λ s. stampKilled first pages (present t) s m) m
+killMemory first pages t a m = onRegion (heldAt t a) (λ s. stampKilled first pages (present t) s m) m

@@ -1,5 +1,5 @@
 use Rattle.store.specs.Copies.{rowDropped}
-use Rattle.store.proofs.Copying.{copying}
+use Rattle.store.proofs.Rows.{rows}
 use Rattle.store.proofs.copies.drop_row.Statement.{statement}
 use Rattle.store.proofs.copies.drop_row.Tie as tie
 
@@ -8,7 +8,7 @@ unfolding rowDropped
 drop-row-spec =
     tie.close
     (tie.spec
-    (λ c κs. search copying) -- clear-row-requires
-    (λ c κs. search copying) -- put-requires
-    (λ c. search copying) -- same-length
-    (λ c. search copying)) -- returns
+    (λ c κs. search rows)  -- clear-row-requires
+    (λ c κs. search rows)  -- put-requires
+    (λ c. search rows)  -- same-length
+    (λ c. search rows))  -- returns

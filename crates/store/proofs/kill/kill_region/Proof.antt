@@ -8,21 +8,21 @@ unfolding killAnswer killMemory
 kill-region-spec =
     tie.close
     (tie.spec
-    (λ c κs. search killing) -- copy-number-requires
-    (λ c κs. search killing) -- held-in-requires
-    (λ c. search killing) -- enum-known-r
-    (λ c. search killing) -- enum-told
-    (λ c κs. search killing) -- plain-requires
-    (λ c. (search killing, search killing)) -- returns
-    (λ c. search killing) -- enum-known-r-2
-    (λ c κs. search killing) -- kill-stamp-requires
-    (λ c. search killing) -- enum-told-2
-    (λ c κs. search killing) -- plain-requires-2
-    (λ c. search killing) -- enum-told-3
-    (λ c κs. search killing) -- plain-requires-3
-    (λ c. search killing) -- same-length
-    (λ c. search killing) -- same-length-2
-    (λ c. search killing) -- same-length-3
-    (λ c. (search killing, search killing)) -- returns-2
-    (λ c. (search killing, search killing)) -- returns-3
-    (λ c. (search killing, search killing))) -- returns-4
+    (λ c κs. search killing)  -- copy-number-requires
+    (λ c κs. search killing)  -- held-requires
+    (λ c. search killing)  -- enum-known-r
+    (λ c. search killing)  -- enum-told
+    (λ c κs. search killing)  -- plain-requires
+    (λ c. (search killing, search killing))  -- returns
+    (λ c. search killing)  -- enum-known-r-2
+    (λ c κs. search killing)  -- kill-stamp-requires
+    (λ c. search killing)  -- enum-told-2
+    (λ c κs. search killing)  -- plain-requires-2
+    (λ c. search killing)  -- enum-told-3
+    (λ c κs. search killing)  -- plain-requires-3
+    (λ c. search killing)  -- same-length
+    (λ c. search killing)  -- same-length-2
+    (λ c. search killing)  -- same-length-3
+    (λ c. (search killing, search killing))  -- returns-2
+    (λ c. (search killing, search killing))  -- returns-3
+    (λ c. (search killing, search killing)))  -- returns-4

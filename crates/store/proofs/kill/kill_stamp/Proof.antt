@@ -8,16 +8,16 @@ unfolding stampAnswer stampKilled
 kill-stamp-spec =
     tie.close
     (tie.spec
-    (λ c κs. search killing) -- live-page-requires
-    (λ c. search killing) -- enum-known-p
-    (λ c. search killing) -- enum-told
-    (λ c κs. search killing) -- plain-requires
-    (λ c. search killing) -- same-length
-    (λ c. search killing) -- same-length-2
-    (λ c. (search killing, search killing)) -- returns
-    (λ c κs. search killing) -- undo-requires
-    (λ c κs. search killing) -- plain-requires-2
-    (λ c. search killing) -- same-length-3
-    (λ c. search killing) -- same-length-4
-    (λ c. search killing) -- same-length-5
-    (λ c. (search killing, search killing))) -- returns-2
+    (λ c κs. search killing)  -- live-page-requires
+    (λ c. search killing)  -- enum-known-p
+    (λ c. search killing)  -- enum-told
+    (λ c κs. search killing)  -- plain-requires
+    (λ c. search killing)  -- same-length
+    (λ c. search killing)  -- same-length-2
+    (λ c. (search killing, search killing))  -- returns
+    (λ c κs. search killing)  -- undo-requires
+    (λ c κs. search killing)  -- plain-requires-2
+    (λ c. search killing)  -- same-length-3
+    (λ c. search killing)  -- same-length-4
+    (λ c. search killing)  -- same-length-5
+    (λ c. (search killing, search killing)))  -- returns-2
