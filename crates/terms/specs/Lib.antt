@@ -1,3 +1,4 @@
 pub mod Deref
 pub mod Unify
 pub mod Took
+pub mod Eager
