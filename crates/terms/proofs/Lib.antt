@@ -4,3 +4,4 @@ pub mod Placing
 pub mod FoundWords
 pub mod Operands
 pub mod Building
+pub mod Arguments
