@@ -5,4 +5,5 @@ pub mod Pick
 pub mod Via
 pub mod Scan
 pub mod Turns
+pub mod Stores
 pub mod Rules

@@ -10,7 +10,6 @@ use lib.Dec.{ltb}
 use borrow.Author.Tests.{lt-ltb, le-ltb, ltb-true}
 use Rattle.laws.specs.declared.Sought.{Sought}
 use Rattle.laws.specs.declared.Sought.the-variants.{At, Nowhere}
-use Rattle.laws.specs.Base.{if_then_else_}
 use Rattle.laws.specs.Pick.{pick}
 use Rattle.laws.specs.Loops.{scan, seek}
 

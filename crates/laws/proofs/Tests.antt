@@ -1,9 +1,9 @@
 -- What a test on numbers says, for `omega`; and two tests that say the same.
 use mathlib.Core.Path.{_≡_, refl, sym, _∙_}
 use mathlib.Core.Bool.{Bool, true, false}
-use Prim.Native.Nat.{ℕ, zero, suc, _≤_}
+use Prim.Native.Nat.{ℕ, _≤_}
 use lib.Dec.{leb}
-use borrow.Author.Tests.{leb-true, leb-false, ltb-true, ltb-false, eqb-true, eqb-false, le-leb, lt-leb}
+use borrow.Author.Tests.{leb-true, leb-false, eqb-true, eqb-false, le-leb}
 use native.Mathlib.Omega.{arith}
 -- what a test says, for omega
 pub ruleset tests = (arith, leb-true, leb-false, eqb-true, eqb-false)

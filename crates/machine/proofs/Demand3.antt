@@ -8,18 +8,14 @@ use mathlib.Core.Option.{Option, none, some, Option·none-ne-some, Option·some-
 use Prim.Native.Nat.{ℕ, zero, suc, _+_, _*_, _≤_, _<_}
 use native.Mathlib.Omega.{arith}
 use native.Mathlib.Nat.{add-zero, add-assoc}
-use lib.Dec.{leb, eqb}
 use lib.ListN.{length, take, drop, replicate, replicate-append-replicate}
-use Rattle.laws.specs.Base.{if_then_else_, keep, from}
-use Rattle.words.specs.declared.Step.{Step}
-use Rattle.words.specs.declared.Step.the-variants.{Refused, MakeRegion, KillRegion, MakeVar, Integer, Structure, Unify, Deref, Destruct, PushChoice, Cut, Backtrack}
+use Rattle.laws.specs.Base.{keep, from}
 use Rattle.words.specs.declared.Answer.{Answer}
 use Rattle.words.specs.Steps.{decode}
-use Rattle.words.specs.Answers.{plain}
-use Rattle.machine.specs.Copies.{Limits, Region, Copy, Machine, copies, withCopies, opening, held, free, lowest, shown, slots}
-use Rattle.machine.specs.Run.{Outcome, refused, lastStamp, newRegion, cutTo, backTo, exec, answer, after, final}
+use Rattle.machine.specs.Copies.{Limits, Region, Copy, Machine, copies, opening, held, free, shown}
+use Rattle.machine.specs.Run.{Outcome, exec, answer, after, final}
 use Rattle.machine.specs.Image.{pageImage, pagesImage, heapImage}
-use Rattle.machine.specs.Strike.{Line, lines, Event, made, pushed, dropped, used, other, accepted, eventOf, event, Stretch, Fate, stands, ended, lost, fate, regionsIn, longer, onward, stretch, stretchAt, struck, Item, kept, moved, strikeFrom, strike, moveOn, replayed, replayAnswers, keptAnswers, stampsOf, stamps, usedBy, backtracksLeft}
+use Rattle.machine.specs.Strike.{Line, lines, Event, made, pushed, dropped, used, other, eventOf, event, Stretch, fate, regionsIn, longer, onward, stretch, stretchAt, struck, Item, strikeFrom, strike, moveOn, replayed, replayAnswers, keptAnswers, stampsOf, stamps, usedBy, backtracksLeft}
 use Rattle.machine.proofs.Moves.{machineOf, Moves, moves}
 use Rattle.machine.specs.Demand3.{Struck, NothingLeft, Demand3}
 

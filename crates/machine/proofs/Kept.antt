@@ -1,6 +1,6 @@
 -- Every step keeps a machine sound, whatever the step word; so does a run, and a session stays a session of document 01.
 use mathlib.Core.Path.{_≡_, refl, sym, ap, _∙_}
-use mathlib.Core.Bool.{Bool, true, false, _&&_, true≢false}
+use mathlib.Core.Bool.{Bool, true, false, _&&_}
 use mathlib.Core.List.{List, [], _∷_}
 use mathlib.Core.Logic.{_≢_}
 use Prim.Native.Nat.{ℕ, _+_, _^_, _≤_, _<_}
@@ -14,7 +14,7 @@ use Rattle.words.specs.Fit.{StepFits}
 use Rattle.words.proofs.StepWords.{decode-fits}
 use Rattle.machine.specs.Copies.{Machine, document, opening}
 use Rattle.machine.specs.Run.{exec, after, final}
-use Rattle.machine.specs.Sound.{LimitsOk, Sound, SoundSession}
+use Rattle.machine.specs.Sound.{Sound, SoundSession}
 use Rattle.machine.proofs.Moves.{limits-stay}
 use Rattle.machine.proofs.Choices.{opening-sound, exec-push, exec-cut, exec-backtrack}
 use Rattle.machine.proofs.Kill.{exec-kill}

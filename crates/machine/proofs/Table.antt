@@ -4,7 +4,7 @@ use mathlib.Core.Bool.{true}
 use mathlib.Core.List.{List, [], _∷_, map}
 use Prim.Native.Nat.{ℕ, suc}
 use lib.ListN.{take}
-use lib.IntN.{pos, negsuc}
+use lib.IntN.{negsuc}
 use Rattle.words.specs.declared.Step.the-variants.{MakeRegion, KillRegion, MakeVar, Integer, Unify, Deref, PushChoice, Cut, Backtrack}
 use Rattle.words.specs.Steps.{stepWord}
 use Rattle.machine.specs.Copies.{Machine, document, opening}
@@ -18,11 +18,6 @@ use Rattle.machine.proofs.Opened.{opened}
 pub the-table : allHold cases ≡ true
 unfolding opened cases
 the-table = refl
-
--- step 6 of the worked run is this word
-pub step-6 : stepWord (Unify 1 3 1) ≡ 0x6004600200000000
-unfolding opened
-step-6 = refl
 
 -- ---- demand 3 on two runs: 0 for a step that stays, 1 + n for a stretch struck with n regions in it
 

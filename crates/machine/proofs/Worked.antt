@@ -1,8 +1,7 @@
 -- The worked example prints its fifteen lines, and files that the program refuses print one: by computation.
 use mathlib.Core.Path.{_≡_, refl}
-use mathlib.Core.List.{List, [], _∷_, _++_}
-use Prim.Native.Nat.{ℕ}
-use lib.ListN.{take, replicate}
+use mathlib.Core.List.{[], _∷_}
+use lib.ListN.{take}
 use Rattle.machine.specs.Program.{wordsFrom, firstRefused, digits, stepLine, stepLines, openingLine, lastLine, runLines, printedWords, printed, refusedLine}
 use Rattle.machine.specs.Worked.{workedFile, workedText}
 use Rattle.machine.proofs.Opened.{opened}

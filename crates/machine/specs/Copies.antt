@@ -1,10 +1,10 @@
 -- Document 01, "The copy machine": regions, copies, the machine, held and free pages, and how a region grows.
-use mathlib.Core.Bool.{Bool, true, false, not}
+use mathlib.Core.Bool.{Bool, not}
 use mathlib.Core.List.{List, [], _∷_, _++_, map}
 use mathlib.Core.Option.{Option, none, some}
 use Prim.Native.Nat.{ℕ, zero, suc, _+_, _-_, _*_, _/_, _%_}
 use lib.Dec.{leb, eqb}
-use lib.ListN.{length, getD, set, replicate, getElem?}
+use lib.ListN.{length, set, replicate, getElem?}
 use Rattle.laws.specs.Base.{if_then_else_, keep, first, some-of, from}
 use Rattle.words.specs.declared.Ref.{Ref}
 use Rattle.words.specs.declared.Cell.{Cell}

@@ -2,12 +2,12 @@
 -- copy's list, and all else in the heap is zero.
 use mathlib.Core.List.{List, [], _∷_, _++_, map}
 use mathlib.Core.Option.{Option, none, some}
-use Prim.Native.Nat.{ℕ, zero, suc, _-_}
+use Prim.Native.Nat.{ℕ, _-_}
 use lib.Dec.{eqb}
 use lib.ListN.{length, replicate}
 use Rattle.laws.specs.Base.{if_then_else_, from}
 use Rattle.words.specs.Words.{cellWord, linkWord}
-use Rattle.machine.specs.Copies.{Page, Region, Copy, Machine, copies, shown}
+use Rattle.machine.specs.Copies.{Page, Region, Machine, copies, shown}
 
 -- the sixteen words of a page: the link, the filled words, zeros; k is the width of an address
 unfoldable pub pageWords : ℕ → ℕ → Option ℕ → Page → List ℕ

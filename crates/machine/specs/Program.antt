@@ -1,14 +1,14 @@
 -- Document 01, "One run, whole": what the program prints of a file, byte for byte.
-use mathlib.Core.Bool.{Bool, true, false, _&&_, _||_}
+use mathlib.Core.Bool.{Bool, _||_}
 use mathlib.Core.List.{List, [], _∷_, _++_}
 use Prim.Native.Nat.{ℕ, zero, suc, _+_, _*_, _/_, _%_, _^_}
-use lib.Dec.{leb, eqb, ltb}
+use lib.Dec.{eqb, ltb}
 use lib.ListN.{length}
 use Rattle.laws.specs.Base.{if_then_else_}
 use Rattle.words.specs.declared.Answer.{Answer}
 use Rattle.words.specs.Fields.{bits}
 use Rattle.machine.specs.declared.State.{State}
-use Rattle.machine.specs.Copies.{Machine, document, opening}
+use Rattle.machine.specs.Copies.{document, opening}
 use Rattle.machine.specs.Run.{answers, final, stateOf}
 
 -- ---- reading: words of 8 bytes, most significant first

@@ -1,5 +1,5 @@
 -- Document 01, "Steps" and "Answer words": what each step answers and does, and a run over a list of steps.
-use mathlib.Core.Bool.{Bool, true, false, _&&_, not}
+use mathlib.Core.Bool.{_&&_, not}
 use mathlib.Core.List.{List, [], _∷_, _++_, map}
 use mathlib.Core.Option.{Option, none, some}
 use Prim.Native.Nat.{ℕ, zero, suc, _+_, _-_, _*_, _^_}
@@ -21,7 +21,7 @@ use Rattle.machine.specs.declared.Found.{Found}
 use Rattle.machine.specs.declared.Found.the-variants.{Dead, At}
 use Rattle.machine.specs.declared.State.{State}
 use Rattle.machine.specs.Copies.{Page, Region, Copy, Machine, withCopies, Put, free, lowest, stamped, live, slots, put}
-use Rattle.machine.specs.Unify.{argumentsAt, Pair, Solved, solve, deref}
+use Rattle.machine.specs.Unify.{argumentsAt, Solved, solve, deref}
 
 -- ---- answers
 

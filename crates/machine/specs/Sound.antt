@@ -1,9 +1,9 @@
 -- Document 01, "Sound machine", clause by clause. What the copies' form rules out needs no line here: a fill has no gap, registers hold
 -- tags 0, 7 and 8 only, link words follow the lists, bits not named are zero.
 use mathlib.Core.Path.{_≡_}
-use mathlib.Core.Bool.{Bool, true, false}
+use mathlib.Core.Bool.{true, false}
 use mathlib.Core.List.{List, [], _∷_, _++_, map, List·Memᴰ, List·Nodup}
-use mathlib.Core.Option.{Option, none, some}
+use mathlib.Core.Option.{some}
 use Prim.Native.Nat.{ℕ, zero, suc, _+_, _*_, _/_, _%_, _^_, _≤_, _<_}
 use lib.ListN.{length}
 use Rattle.laws.specs.Base.{Each, Pairs}

@@ -2,5 +2,9 @@ pub mod Links
 pub mod Rows
 pub mod Fills
 pub mod Sought
+pub mod Undoing
+pub mod Copying
+pub mod UndoPasses
+pub mod UndoWhole
 pub mod Making
 pub mod Unturned

@@ -1,6 +1,6 @@
 -- What the link words of a heap tell: free pages, slots, a region's newest page and its fill, live references.
 -- The pages are those of the machine, `pages` of them from `first` on.
-use mathlib.Core.Bool.{Bool, true, false}
+use mathlib.Core.Bool.{Bool, false}
 use mathlib.Core.List.{List}
 use mathlib.Core.Option.{none}
 use Prim.Native.Nat.{ℕ, _+_, _*_, _/_, _^_}

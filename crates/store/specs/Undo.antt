@@ -3,8 +3,7 @@
 -- cut of copy n - 1:      j = n - 1, last = n - 1, struck: the pages whose region that copy was the newest to have, whose mark is n - 1
 -- kill of stamp s:        j = n,     last = n,     struck: the pages of that stamp
 -- It goes in three passes: all cells, which read their page's link; all link words, which read the born mark of the next page; the links' marks.
-use mathlib.Core.Bool.{Bool, true, false}
-use mathlib.Core.List.{List}
+use mathlib.Core.Bool.{Bool, false}
 use Prim.Native.Nat.{ℕ, _+_, _-_, _*_, _/_, _%_, _^_, min}
 use lib.Dec.{eqb}
 use lib.ListN.{getD, set}

@@ -1,13 +1,12 @@
 -- What each way out of deref gives. The premises are what a test, a `let .. else` and the calls before it tell.
 use mathlib.Core.Path.{_≡_, refl, sym, ap, _∙_}
-use mathlib.Core.Logic.{_⊎_, inl, inr}
 use mathlib.Core.Bool.{Bool, true, false}
 use mathlib.Core.List.{List, [], _∷_}
 use Prim.Native.Nat.{ℕ, suc, _-_, _<_, _≤_}
 use native.Mathlib.Omega.{arith}
 use lib.ListN.{length, getD}
 use borrow.Author.Needs.{needs}
-use types.Run.{OneOf}
+use types.Run.{OneOf, miss}
 use denote.Enum.Declared.{tagOf}
 use Rattle.laws.specs.Pick.{pick}
 use Rattle.words.specs.declared.Ref.{Ref}
@@ -29,33 +28,24 @@ module _ (r : Ref) where
   pub ends-here : (c : Cell) → OneOf (0 ∷ 2 ∷ 3 ∷ []) (tagOf CellType.the-type c) → At r c ≡ endsAt r c
   unfolding endsAt
   ends-here Unbound o = refl
-  ends-here (Bound s) (inl e) = absurd (omega arith)
-  ends-here (Bound s) (inr (inl e)) = absurd (omega arith)
-  ends-here (Bound s) (inr (inr e)) = absurd (omega arith)
+  ends-here (Bound s) o = absurd (miss (0 ∷ 2 ∷ 3 ∷ []) 1 tt o)
   ends-here (Int v) o = refl
   ends-here (Head f n) o = refl
-  ends-here (Argument s) (inl e) = absurd (omega arith)
-  ends-here (Argument s) (inr (inl e)) = absurd (omega arith)
-  ends-here (Argument s) (inr (inr e)) = absurd (omega arith)
+  ends-here (Argument s) o = absurd (miss (0 ∷ 2 ∷ 3 ∷ []) 4 tt o)
 
   pub ends-dead : (c : Cell) → OneOf (1 ∷ 4 ∷ []) (tagOf CellType.the-type c) → Dead ≡ endsAt r c
   unfolding endsAt
-  ends-dead Unbound (inl e) = absurd (omega arith)
-  ends-dead Unbound (inr e) = absurd (omega arith)
+  ends-dead Unbound o = absurd (miss (1 ∷ 4 ∷ []) 0 tt o)
   ends-dead (Bound s) o = refl
-  ends-dead (Int v) (inl e) = absurd (omega arith)
-  ends-dead (Int v) (inr e) = absurd (omega arith)
-  ends-dead (Head f n) (inl e) = absurd (omega arith)
-  ends-dead (Head f n) (inr e) = absurd (omega arith)
+  ends-dead (Int v) o = absurd (miss (1 ∷ 4 ∷ []) 2 tt o)
+  ends-dead (Head f n) o = absurd (miss (1 ∷ 4 ∷ []) 3 tt o)
   ends-dead (Argument s) o = refl
 
 -- a word that is no cell
 no-cell : (r : Ref) (w : Word) (next : Ref → Found) → OneOf (0 ∷ 2 ∷ 3 ∷ []) (tagOf WordType.the-type w) → Dead ≡ onWord r w next
 unfolding onWord
 no-cell r Word.Empty next o = refl
-no-cell r (Word.Filled c) next (inl e) = absurd (omega arith)
-no-cell r (Word.Filled c) next (inr (inl e)) = absurd (omega arith)
-no-cell r (Word.Filled c) next (inr (inr e)) = absurd (omega arith)
+no-cell r (Word.Filled c) next o = absurd (miss (0 ∷ 2 ∷ 3 ∷ []) 1 tt o)
 no-cell r (Word.Linked l) next o = refl
 no-cell r Word.Broken next o = refl
 
@@ -63,10 +53,7 @@ no-cell r Word.Broken next o = refl
 not-bound : (r : Ref) (c : Cell) (next : Ref → Found) → OneOf (0 ∷ 2 ∷ 3 ∷ 4 ∷ []) (tagOf CellType.the-type c) → endsAt r c ≡ onCell r c next
 unfolding onCell
 not-bound r Unbound next o = refl
-not-bound r (Bound s) next (inl e) = absurd (omega arith)
-not-bound r (Bound s) next (inr (inl e)) = absurd (omega arith)
-not-bound r (Bound s) next (inr (inr (inl e))) = absurd (omega arith)
-not-bound r (Bound s) next (inr (inr (inr e))) = absurd (omega arith)
+not-bound r (Bound s) next o = absurd (miss (0 ∷ 2 ∷ 3 ∷ 4 ∷ []) 1 tt o)
 not-bound r (Int v) next o = refl
 not-bound r (Head f n) next o = refl
 not-bound r (Argument s) next o = refl

@@ -5,3 +5,7 @@ pub mod FoundWords
 pub mod Operands
 pub mod Building
 pub mod Arguments
+pub mod Meeting
+pub mod Named
+pub mod Cycle
+pub mod Whole

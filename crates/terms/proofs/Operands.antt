@@ -1,6 +1,5 @@
 -- What the registers of the present copy hold, and what op 7 answers. The premises are what a `let .. else`, a test and the calls before it tell.
 use mathlib.Core.Path.{_≡_, refl, sym, ap, subst, _∙_}
-use mathlib.Core.Logic.{_⊎_, inl, inr}
 use mathlib.Core.Bool.{Bool, true, false}
 use mathlib.Core.List.{List, [], _∷_}
 use Prim.Native.Nat.{ℕ, _+_, _*_, _%_, _^_, _<_, _≤_}
@@ -12,7 +11,7 @@ use borrow.Author.Needs.{needs}
 use mir.Syntax.{w32}
 use mir.Val.{Fits}
 use mir.Facts.{fits-ofZ}
-use types.Run.{OneOf}
+use types.Run.{OneOf, miss}
 use denote.Enum.Declared.{tagOf}
 use Rattle.laws.specs.Pick.{pick}
 use Rattle.words.specs.declared.Ref.{Ref}
@@ -49,8 +48,7 @@ no-term : {A : Type 0} (y : Register) (f : Ref → A) (z : A) → OneOf (0 ∷ 1
 unfolding onTerm
 no-term Empty f z o = refl
 no-term (Region s) f z o = refl
-no-term (Term r) f z (inl e) = absurd (omega arith)
-no-term (Term r) f z (inr e) = absurd (omega arith)
+no-term (Term r) f z o = absurd (miss (0 ∷ 1 ∷ []) 2 tt o)
 
 module _ (h t u : List ℕ) (i : ℕ) (x : Held) (ex : x ≡ heldAt t i) where
   pub found-broken : x ≡ Held.Broken → Dead ≡ foundAt h t u i

@@ -1,2 +1,4 @@
 pub mod Build
 pub mod Deref
+pub mod Unify
+pub mod Took

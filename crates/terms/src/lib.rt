@@ -2,3 +2,4 @@
 
 pub mod build;
 pub mod deref;
+pub mod unify;

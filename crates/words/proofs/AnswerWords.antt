@@ -7,6 +7,7 @@ use Rattle.words.specs.declared.Answer.{Answer}
 use Rattle.words.specs.Fields.{bits}
 use Rattle.words.specs.Answers.{answerWord, answerOf}
 use Rattle.words.specs.Fit.{AnswerFits}
+use Rattle.words.specs.Clip.{clippedAnswer}
 use Rattle.words.proofs.Fields.{bits-at, bits-split}
 
 pub answer-back : (a : Answer) → AnswerFits a → answerOf (answerWord a) ≡ a
@@ -27,3 +28,8 @@ answer-exact w h z =
   where
     sum : (s k p q a b c d w : ℕ) → w ≡ s * 2 ^ 60 + a → a ≡ k * 2 ^ 56 + b → b ≡ p * 2 ^ 44 + c → c ≡ q * 2 ^ 12 + d → d ≡ 0 → s * 2 ^ 60 + k * 2 ^ 56 + p * 2 ^ 44 + q * 2 ^ 12 ≡ w
     sum s k p q a b c d w x₁ x₂ x₃ x₄ z = omega arith
+
+-- an answer that fits is packed as it is
+pub clip-answer : (a : Answer) → AnswerFits a → clippedAnswer a ≡ a
+unfolding clippedAnswer
+clip-answer a h = λ i. record { status = mod-eq-of-lt (h .status) i; kind = mod-eq-of-lt (h .kind) i; pairs = mod-eq-of-lt (h .pairs) i; payload = a .payload }

@@ -6,7 +6,6 @@ use Prim.Native.Nat.{ℕ, _+_, _-_, _*_, _^_, _≤_, _<_}
 use native.Mathlib.Omega.{arith}
 use lib.IntN.{ℤ}
 use lib.Pow.{shl-lt, pow-pos}
-use mir.Facts.{fits-ofZ, toZ-ofZ}
 use Rattle.words.specs.declared.Ref.{Ref}
 use Rattle.words.specs.declared.Cell.{Cell}
 use Rattle.words.specs.declared.Cell.the-variants.{Unbound, Bound, Int, Head, Argument}
@@ -20,6 +19,7 @@ use Rattle.words.specs.Integers.{bitsOf, intOf, IntIn}
 use Rattle.words.specs.Words.{refBits, cellWord, linkWord, registerWord, heapWord, stampOf, addressOf, refOf, heapReading, registerReading}
 use Rattle.words.specs.Fit.{RefFits, CellFits, cellTag, NextFits, hasNext, nextPage, LinkFits, WordFits, RegisterFits, registerTag}
 use Rattle.words.proofs.Fields.{bits-at}
+use Rattle.words.proofs.Ints.{int-bits, int-below}
 
 -- ---- a tag, then 32 bits, then x
 
@@ -39,11 +39,8 @@ below-tag s x hs hx = omega arith
 tagged-room : (t x : ℕ) → t < 16 → x < 2 ^ 60 → tagged t x < 2 ^ 64
 tagged-room t x ht hx = omega arith
 
-int-room : (v : ℤ) → IntIn v → bitsOf v < 2 ^ 32
-int-room v h = fits-ofZ h .fits
-
 int-back : (v : ℤ) → IntIn v → intOf (stampOf (tagged 3 (bitsOf v * 2 ^ 28))) ≡ v
-int-back v h = rw (stamp-alone 3 (bitsOf v) (int-room v h)) (toZ-ofZ h)
+int-back v h = rw (stamp-alone 3 (bitsOf v) (int-below v h)) (int-bits v h)
 
 functor-back : (f n : ℕ) → f < 2 ^ 16 → n ≤ 14 → bits 44 16 (tagged 4 (f * 2 ^ 44 + n * 2 ^ 40)) ≡ f
 functor-back f n hf hn = bits-at 44 16 4 f (n * 2 ^ 40) (tagged 4 (f * 2 ^ 44 + n * 2 ^ 40)) (omega arith) hf (omega arith)
@@ -177,7 +174,7 @@ module _ (k : ℕ) (low : 4 ≤ k) (high : k ≤ 16) where
   unfolding CellFits
   cell-room Unbound h = omega arith
   cell-room (Bound r) h = ref-room r h
-  cell-room (Int v) h = omega (arith, int-room v h)
+  cell-room (Int v) h = omega (arith, int-below v h)
   cell-room (Head f n) h = omega arith
   cell-room (Argument r) h = ref-room r h
 

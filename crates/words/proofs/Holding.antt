@@ -1,12 +1,11 @@
 -- What the code unpacks of a register word, case by case.
 use mathlib.Core.Path.{_≡_, refl, sym, ap, _∙_}
-use mathlib.Core.Bool.{Bool}
 use mathlib.Core.Logic.{_≢_}
-use Prim.Native.Nat.{ℕ, _<_}
+use Prim.Native.Nat.{ℕ}
 use native.Mathlib.Omega.{arith}
 use lib.Dec.{eqb}
 use borrow.Author.Needs.{needs}
-use borrow.Author.Tests.{eq-eqb, ne-eqb}
+use borrow.Author.Tests.{ne-eqb}
 use Rattle.laws.specs.Base.{if_then_else_}
 use Rattle.words.specs.declared.Ref.{Ref}
 use Rattle.words.specs.declared.Register.{Register}
@@ -17,7 +16,6 @@ use Rattle.words.specs.Fields.{bits, tagOf}
 use Rattle.words.specs.Words.{registerWord, refOf, registerReading, unpackRegister}
 use Rattle.words.specs.Exact.{exactRegister}
 use Rattle.words.specs.Fit.{RefFits, RegisterFits, registerTag}
-use Rattle.words.proofs.Fields.{bits-below}
 use Rattle.words.proofs.Back.{register-tag}
 use Rattle.words.proofs.Rounds.{ref-in}
 

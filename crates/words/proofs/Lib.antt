@@ -10,3 +10,4 @@ pub mod Rounds
 pub mod AnswerWords
 pub mod StepWords
 pub mod StepCode
+pub mod Worked

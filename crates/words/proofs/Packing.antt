@@ -1,5 +1,5 @@
 -- What the code packs, case by case. Each law's premises are what a `match` and the calls in its arm tell.
-use mathlib.Core.Path.{_≡_, _∙_, sym, ap}
+use mathlib.Core.Path.{_≡_}
 use Prim.Native.Nat.{ℕ, _+_, _*_, _^_}
 use native.Mathlib.Omega.{arith}
 use lib.IntN.{ℤ}

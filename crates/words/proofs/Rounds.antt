@@ -3,7 +3,6 @@
 use mathlib.Core.Path.{_≡_, refl, sym, ap, _∙_, subst}
 use mathlib.Core.Bool.{Bool, true, false}
 use mathlib.Core.Logic.{_≢_}
-use mathlib.Core.List.{[], _∷_}
 use Prim.Native.Nat.{ℕ, _-_, _≤_}
 use native.Mathlib.Omega.{arith}
 use lib.Dec.{eqb}
@@ -18,12 +17,12 @@ use Rattle.words.specs.declared.Register.the-variants.{Empty, Region, Te
 use Rattle.words.specs.declared.Held.{Held}
 use Rattle.words.specs.declared.Held.the-variants as Held
 use Rattle.words.specs.Fields.{bits, tagOf}
-use Rattle.words.specs.Integers.{intOf}
-use Rattle.words.specs.Words.{registerWord, heapWord, stampOf, refOf, linkOf, heapReading, wellFormed, unpackHeap, registerReading, unpackRegister}
+use Rattle.words.specs.Words.{registerWord, heapWord, stampOf, refOf, heapReading, wellFormed, unpackHeap, registerReading, unpackRegister}
 use Rattle.words.specs.Fit.{RefFits, CellFits, LinkFits, WordFits, RegisterFits}
 use Rattle.words.proofs.Fields.{bits-below}
 use Rattle.words.proofs.Unpacking.{heapReadings}
-use Rattle.words.proofs.Tests.{passed, passed-both, each-getD}
+use Rattle.laws.proofs.Lists.{each-getD}
+use Rattle.words.proofs.Tests.{passed, passed-both}
 use Rattle.words.proofs.Ints.{int-in}
 use Rattle.words.proofs.Back.{heap-back, register-back}
 
@@ -51,26 +50,8 @@ link-in k w false = bits-below 28 32 w
 reading-in : (k w : ℕ) → heapReading k w ≢ Word.Broken → wellFormed (heapReading k w) ≡ true → WordFits k (heapReading k w)
 unfolding heapReading WordFits CellFits wellFormed
 reading-in k w =
-    each-getD (λ (x : Word). x ≢ Word.Broken → wellFormed x ≡ true → WordFits k x) (heapReadings k w) Word.Broken (λ n f. absurd (n refl)) (
-      λ n f. tt,
-      (
-        λ n f. tt,
-        (
-          λ n f. ref-in k w,
-          (
-            λ n f. int-in (bits 28 32 w) (bits-below 28 32 w),
-            (
-              λ n f. (bits-below 44 16 w, leb-true (bits 40 4 w) 14 f),
-              (
-                λ n f. ref-in k w,
-                (λ n f. link-in k w (eqb (bits 27 1 w) 1), tt),
-              ),
-            ),
-          ),
-        ),
-      ),
-    )
-    (tagOf w)
+    each-getD (λ (x : Word). x ≢ Word.Broken → wellFormed x ≡ true → WordFits k x) (heapReadings k w) (tagOf w) Word.Broken
+    (search (tt, ref-in, int-in, link-in, bits-below, leb-true)) (λ n f. absurd (n refl))
 
 held-in : (k w : ℕ) (s t : Bool) → RegisterFits k (if s then Empty else if t then Region (stampOf w) else Term (refOf k w))
 unfolding RegisterFits

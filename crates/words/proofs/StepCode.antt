@@ -1,11 +1,11 @@
 -- What the code packs and decodes of a step, case by case. Each law's premises are what a `match`, a test and the calls in its arm tell.
 use mathlib.Core.Path.{_≡_, refl, sym, ap, _∙_}
-use mathlib.Core.Bool.{Bool, true, false, _&&_}
+use mathlib.Core.Bool.{true}
 use mathlib.Core.Logic.{_⊎_, inl, inr, ⊎-elim}
-use Prim.Native.Nat.{ℕ, zero, suc, _+_, _*_, _/_, _%_, _^_, _≤_, _<_, zero-le}
+use Prim.Native.Nat.{ℕ, zero, suc, _+_, _*_, _/_, _%_, _^_, _≤_, _<_}
 use native.Mathlib.Nat.{mod-eq-of-lt}
 use native.Mathlib.Omega.{arith}
-use lib.Dec.{eqb, leb}
+use lib.Dec.{eqb}
 use lib.IntN.{ℤ}
 use lib.ListN.{getD, List·getD-eq-default}
 use borrow.Author.Needs.{needs}
@@ -120,13 +120,13 @@ module _ (w : ℕ) where
   pub decoded : (r : Step) (j : ℕ) (s : Step) → r ≡ exactStep w s → w / 2 ^ 60 ≡ j → s ≡ getD (readings w) (j % 2 ^ 4) Refused → fits s ≡ true → r ≡ decode w
   decoded r j s g h q f = g ∙ rw f at (decode-is w s (reading-is j h ∙ sym q))
 
-  pub decoded-structure : (r x : Step) → r ≡ inRange (bits 45 5 w) (bits 25 4 w) x → x ≡ exactStep w (getD (readings w) 5 Refused) → w / 2 ^ 60 ≡ 5 → r ≡ decode w
+  pub decoded-structure : (r : Step) → r ≡ inRange (bits 45 5 w) (bits 25 4 w) (exactStep w (getD (readings w) 5 Refused)) → w / 2 ^ 60 ≡ 5 → r ≡ decode w
   unfolding inRange fits
-  decoded-structure r x g e h = g ∙ rw e (decode-is w (getD (readings w) 5 Refused) (reading-is 5 h))
+  decoded-structure r g h = g ∙ decode-is w (getD (readings w) 5 Refused) (reading-is 5 h)
 
-  pub decoded-destruct : (r x : Step) → r ≡ inRange (bits 55 5 w) (bits 25 4 w) x → x ≡ exactStep w (getD (readings w) 8 Refused) → w / 2 ^ 60 ≡ 8 → r ≡ decode w
+  pub decoded-destruct : (r : Step) → r ≡ inRange (bits 55 5 w) (bits 25 4 w) (exactStep w (getD (readings w) 8 Refused)) → w / 2 ^ 60 ≡ 8 → r ≡ decode w
   unfolding inRange fits
-  decoded-destruct r x g e h = g ∙ rw e (decode-is w (getD (readings w) 8 Refused) (reading-is 8 h))
+  decoded-destruct r g h = g ∙ decode-is w (getD (readings w) 8 Refused) (reading-is 8 h)
 
   no-step : (t : ℕ) → (t ≡ 0) ⊎ (11 < t) → getD (readings w) t Refused ≡ Refused
   no-step t (inl e) = rw e
@@ -171,3 +171,13 @@ module _ (first n : ℕ) (s : Step) where
   arity-15 h = rw (lt-leb n 14 h)
 
 pub ruleset ranges = (needs, in-range, past-31, arity-15)
+
+-- ---- a call of what another call returned
+
+pub ranged : (first n : ℕ) (r x y : Step) → r ≡ inRange first n x → x ≡ y → r ≡ inRange first n y
+ranged first n r x y g e = g ∙ ap (inRange first n) e
+
+pub valued : (w d a : ℕ) (r : Step) (v u : ℤ) → r ≡ exactStep w (Integer d a v) → v ≡ u → r ≡ exactStep w (Integer d a u)
+valued w d a r v u g e = g ∙ ap (λ (z : ℤ). exactStep w (Integer d a z)) e
+
+pub ruleset in-turn = (needs, ranged, valued)

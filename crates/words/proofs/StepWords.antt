@@ -16,7 +16,8 @@ use Rattle.words.specs.Steps.{fields, shape, stepWord, reading, fits, de
 use Rattle.words.specs.Fit.{StepFits}
 use Rattle.words.proofs.Fields.{bits-at, bits-below}
 use Rattle.words.proofs.Ints.{int-bits, int-below, int-in}
-use Rattle.words.proofs.Tests.{passed-both, each-getD}
+use Rattle.laws.proofs.Lists.{each-getD}
+use Rattle.words.proofs.Tests.{passed-both}
 
 -- ---- the fields that every step has
 abbrev Frame : ℕ → ℕ → ℕ → ℕ → ℕ → Type 0
@@ -111,25 +112,7 @@ readings w =
 pub reading-in : (w : ℕ) → (reading w ≡ Refused) ⊎ StepFits (reading w)
 unfolding reading StepFits
 reading-in w =
-    let d : bits 55 5 w < 2 ^ 5 = bits-below 55 5 w in
-    let a : bits 50 5 w < 2 ^ 5 = bits-below 50 5 w in
-    let b : bits 45 5 w < 2 ^ 5 = bits-below 45 5 w in
-    let f : bits 29 16 w < 2 ^ 16 = bits-below 29 16 w in
-    let n : bits 25 4 w < 2 ^ 4 = bits-below 25 4 w in
-    each-getD (λ (s : Step). (s ≡ Refused) ⊎ StepFits s) (readings w) Refused (inl refl)
-    (inl refl,
-    (inr d,
-    (inr a,
-    (inr (d, a),
-    (inr (d, a, int-in (bits 13 32 w) (bits-below 13 32 w)),
-    (inr (d, a, b, f, n),
-    (inr (a, b, bits-below 33 12 w),
-    (inr (d, a),
-    (inr (d, a, f, n),
-    (inr tt,
-    (inr tt,
-    (inr tt, tt))))))))))))
-    (bits 60 4 w)
+    each-getD (λ (s : Step). (s ≡ Refused) ⊎ StepFits s) (readings w) (bits 60 4 w) Refused (search (inr, inl, tt, bits-below, int-in) depth 20) (inl refl)
 
 -- a legal step is decoded from its word
 pub decode-round : (s : Step) → StepFits s → fits s ≡ true → decode (stepWord s) ≡ s

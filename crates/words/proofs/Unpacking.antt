@@ -1,11 +1,10 @@
 -- What the code unpacks, case by case. Each law's premises are what a `match`, a test and the calls in its arm tell.
 use mathlib.Core.Path.{_≡_, refl, sym, ap, _∙_}
-use mathlib.Core.Bool.{Bool, true, false, _&&_}
+use mathlib.Core.Bool.{Bool, true, false}
 use mathlib.Core.List.{List, [], _∷_}
 use Prim.Native.Nat.{ℕ, _≤_, _<_, zero-le}
-use native.Mathlib.Omega.{arith}
-use lib.Dec.{eqb, leb}
-use lib.ListN.{getD, List·getD-eq-default, length}
+use lib.Dec.{eqb}
+use lib.ListN.{getD, List·getD-eq-default}
 use borrow.Author.Needs.{needs}
 use borrow.Author.Tests.{le-leb, lt-leb}
 use Rattle.laws.specs.Base.{if_then_else_}
@@ -17,7 +16,7 @@ use Rattle.words.specs.declared.Word.the-variants as Word
 use Rattle.words.specs.Fields.{bits, tagOf}
 use Rattle.words.specs.Integers.{intOf}
 use Rattle.words.specs.Words.{heapWord, refOf, linkOf, heapReading, wellFormed, unpackHeap}
-use Rattle.words.specs.Exact.{exactWord, withArity}
+use Rattle.words.specs.Exact.{exactWord, headOf}
 use Rattle.words.proofs.Tests.{if-both, if-same, past}
 
 -- ---- the parts of a heap word
@@ -32,11 +31,16 @@ module _ (w s : ℕ) (h : Bool) (flag : h ≡ eqb (bits 27 1 w) 1) (stamp : s �
   pub last-is : h ≡ false → Last s ≡ linkOf 12 w
   last-is t = rw (sym flag ∙ t) (ap Last stamp)
 
-pub head-is : (w f n : ℕ) (x r : Word) → n ≡ bits 40 4 w → f ≡ bits 44 16 w → x ≡ exactWord 12 w (Word.Filled (Head f n)) → r ≡ withArity n x →
-    r ≡ withArity (bits 40 4 w) (exactWord 12 w (Word.Filled (Head (bits 44 16 w) (bits 40 4 w))))
-head-is w f n x r a b e q = rw (← a, ← b, ← e) q
+module _ (w n : ℕ) (e : n ≡ bits 40 4 w) where
+  pub head-is : (f : ℕ) (r : Word) → r ≡ exactWord 12 w (Word.Filled (Head f n)) → f ≡ bits 44 16 w → n ≤ 14 → r ≡ headOf 12 w
+  unfolding headOf
+  head-is f r g q h = rw (← e, ← q, le-leb n 14 h) g
 
-pub ruleset parts = (needs, reference-is, joined-is, last-is, head-is)
+  pub head-past : 14 < n → Word.Broken ≡ headOf 12 w
+  unfolding headOf
+  head-past h = rw (← e, lt-leb n 14 h)
+
+pub ruleset parts = (needs, reference-is, joined-is, last-is, head-is, head-past)
 
 -- ---- what a heap word says, by its tag
 
@@ -64,8 +68,8 @@ module _ (w t : ℕ) (e : t ≡ tagOf w) where
   pub said : (r : Word) (j : ℕ) (x : Word) → r ≡ exactWord 12 w x → t ≡ j → x ≡ getD (heapReadings 12 w) j Word.Broken → wellFormed x ≡ true → r ≡ unpackHeap 12 w
   said r j x g h q f = g ∙ rw f at (unpack-is w x (reading-is j h ∙ sym q))
 
-  pub head-said : (r : Word) → r ≡ withArity (bits 40 4 w) (exactWord 12 w (Word.Filled (Head (bits 44 16 w) (bits 40 4 w)))) → t ≡ 4 → r ≡ unpackHeap 12 w
-  unfolding withArity wellFormed
+  pub head-said : (r : Word) → r ≡ headOf 12 w → t ≡ 4 → r ≡ unpackHeap 12 w
+  unfolding headOf wellFormed
   head-said r g h = g ∙ unpack-is w (Word.Filled (Head (bits 44 16 w) (bits 40 4 w))) (reading-is 4 h)
 
   -- tags 7 to 15 are no tags of the heap's

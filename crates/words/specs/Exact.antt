@@ -3,6 +3,7 @@ use mathlib.Core.Bool.{_&&_}
 use Prim.Native.Nat.{ℕ, _+_}
 use lib.Dec.{leb, eqb}
 use Rattle.laws.specs.Base.{if_then_else_}
+use Rattle.words.specs.declared.Cell.the-variants.{Head}
 use Rattle.words.specs.declared.Word.{Word}
 use Rattle.words.specs.declared.Word.the-variants as Word
 use Rattle.words.specs.declared.Register.{Register}
@@ -10,6 +11,7 @@ use Rattle.words.specs.declared.Held.{Held}
 use Rattle.words.specs.declared.Held.the-variants as Held
 use Rattle.words.specs.declared.Step.{Step}
 use Rattle.words.specs.declared.Step.the-variants.{Refused}
+use Rattle.words.specs.Fields.{bits}
 use Rattle.words.specs.Words.{heapWord, registerWord}
 use Rattle.words.specs.Steps.{stepWord}
 use Rattle.words.specs.Clip.{clippedStep}
@@ -28,5 +30,5 @@ unfoldable pub inRange : ℕ → ℕ → Step → Step
 inRange first n s = if leb n 14 && leb (first + n) 32 then s else Refused
 
 -- a structure's head, if its arity is 0 to 14
-unfoldable pub withArity : ℕ → Word → Word
-withArity n x = if leb n 14 then x else Word.Broken
+unfoldable pub headOf : ℕ → ℕ → Word
+headOf k w = if leb (bits 40 4 w) 14 then exactWord k w (Word.Filled (Head (bits 44 16 w) (bits 40 4 w))) else Word.Broken

@@ -1,6 +1,6 @@
 -- Document 01, "Steps": the 64-bit word of a step, and the step that a word says.
-use mathlib.Core.Bool.{Bool, true, false, _&&_}
-use mathlib.Core.List.{List, [], _∷_}
+use mathlib.Core.Bool.{Bool, true, _&&_}
+use mathlib.Core.List.{[], _∷_}
 use Prim.Native.Nat.{ℕ, _+_, _*_, _^_}
 use lib.Dec.{leb, eqb}
 use lib.ListN.{getD}

@@ -1,9 +1,9 @@
 -- Document 01, "Words, most significant bit first": heap words, link words and register words, packed and unpacked.
 -- k is the width of an address: 12 bits in document 01's edition. A next page then has k - 4 bits, since a page has 16 words.
-use mathlib.Core.Bool.{Bool, true, false, _&&_}
-use mathlib.Core.List.{List, [], _∷_}
+use mathlib.Core.Bool.{Bool, true, _&&_}
+use mathlib.Core.List.{[], _∷_}
 use mathlib.Core.Option.{Option, none, some}
-use Prim.Native.Nat.{ℕ, _+_, _-_, _*_, _/_, _%_, _^_}
+use Prim.Native.Nat.{ℕ, _+_, _-_, _*_, _^_}
 use lib.Dec.{leb, eqb}
 use lib.ListN.{getD}
 use Rattle.laws.specs.Base.{if_then_else_}

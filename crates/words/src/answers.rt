@@ -5,16 +5,22 @@ ghost use Rattle.words.specs.Answers.{answerWord, answerOf};
 ghost use Rattle.words.specs.Clip.{clippedAnswer};
 use crate::Answer;
 
-const STATUS_AT: u64 = 1152921504606846976;
-const KIND_AT: u64 = 72057594037927936;
-const PAIRS_AT: u64 = 17592186044416;
-const PAYLOAD_AT: u64 = 4096;
+const STATUS_AT: u64 = 1152921504606846976; // 2 ^ 60
+
+const KIND_AT: u64 = 72057594037927936; // 2 ^ 56
+
+const PAIRS_AT: u64 = 17592186044416; // 2 ^ 44
+
+const PAYLOAD_AT: u64 = 4096; // 2 ^ 12
 
 // A field that is wider here than in the word is taken modulo its width.
 pub fn pack_answer(a: Answer) -> u64
     ensures { λ r. ⌜ r ≡ answerWord (clippedAnswer a) ⌝ }
 {
-    (a.status % 16) as u64 * STATUS_AT + (a.kind % 16) as u64 * KIND_AT + (a.pairs % 4096) as u64 * PAIRS_AT + a.payload as u64 * PAYLOAD_AT
+    (a.status % 16) as u64 * STATUS_AT
+        + (a.kind % 16) as u64 * KIND_AT
+        + (a.pairs % 4096) as u64 * PAIRS_AT
+        + a.payload as u64 * PAYLOAD_AT
 }
 
 pub fn unpack_answer(w: u64) -> Answer

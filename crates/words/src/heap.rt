@@ -1,30 +1,51 @@
 // The words of the heap: a tag of 4 bits, then its fields. Each field is read by its place and its width.
 
 ghost use mathlib.Core.Path.{_≡_};
-ghost use Prim.Native.Nat.{_+_};
 ghost use lib.Dec.{eqb};
-ghost use Rattle.words.specs.Fields.{bits, tagOf};
+ghost use Rattle.words.specs.Fields.{bits};
 ghost use Rattle.words.specs.Integers.{intOf};
 ghost use Rattle.words.specs.Words.{refBits, cellWord, heapWord, refOf, linkOf, unpackHeap};
-ghost use Rattle.words.specs.declared.Word.the-variants.{Filled, Linked};
-ghost use Rattle.words.specs.declared.Cell.the-variants.{Head};
-ghost use Rattle.words.specs.Exact.{exactWord, withArity};
-use crate::integers::{bits_of, int_of};
-use crate::{Cell, Link, Ref, Word};
+ghost use Rattle.words.specs.declared.Word.the-variants.{Linked};
+ghost use Rattle.words.specs.Exact.{exactWord, headOf};
+use crate::Cell;
+use crate::Link;
+use crate::Ref;
+use crate::Word;
+use crate::integers::bits_of;
+use crate::integers::int_of;
 
-// the lowest bit of each field, as a power of two
-pub const TAG_AT: u64 = 1152921504606846976;
-pub const STAMP_AT: u64 = 268435456;
-const ADDRESS_AT: u64 = 65536;
-const HAS_NEXT_AT: u64 = 134217728;
-const NEXT_AT: u64 = 524288;
-const FUNCTOR_AT: u64 = 17592186044416;
-const ARITY_AT: u64 = 1099511627776;
+// The place of each field: its lowest bit.
+pub const TAG_AT: u64 = 1152921504606846976; // 2 ^ 60
 
-pub fn tag(w: u64) -> u64
-    ensures { λ r. ⌜ r ≡ tagOf w ⌝ }
+pub const STAMP_AT: u64 = 268435456; // 2 ^ 28
+
+const ADDRESS_AT: u64 = 65536; // 2 ^ 16
+
+const HAS_NEXT_AT: u64 = 134217728; // 2 ^ 27
+
+const NEXT_AT: u64 = 524288; // 2 ^ 19
+
+const FUNCTOR_AT: u64 = 17592186044416; // 2 ^ 44
+
+const ARITY_AT: u64 = 1099511627776; // 2 ^ 40
+
+// The tag of each kind of word, in its place
+const UNBOUND_TAG: u64 = TAG_AT;
+
+const BOUND_TAG: u64 = 2 * TAG_AT;
+
+const INT_TAG: u64 = 3 * TAG_AT;
+
+const HEAD_TAG: u64 = 4 * TAG_AT;
+
+const ARGUMENT_TAG: u64 = 5 * TAG_AT;
+
+const LINK_TAG: u64 = 6 * TAG_AT;
+
+pub fn tag(w: u64) -> u8
+    ensures { λ r. ⌜ r ≡ bits 60 4 w ⌝ }
 {
-    w / TAG_AT
+    (w / TAG_AT) as u8
 }
 
 pub fn stamp(w: u64) -> u32
@@ -88,11 +109,13 @@ pub fn pack_cell(c: Cell) -> u64
     ensures { λ r. ⌜ r ≡ cellWord 12 c ⌝ }
 {
     match c {
-        Cell::Unbound => TAG_AT,
-        Cell::Bound(r) => 2 * TAG_AT + ref_bits(r),
-        Cell::Int(v) => 3 * TAG_AT + bits_of(v) as u64 * STAMP_AT,
-        Cell::Head { functor, arity } => 4 * TAG_AT + functor as u64 * FUNCTOR_AT + arity as u64 * ARITY_AT,
-        Cell::Argument(r) => 5 * TAG_AT + ref_bits(r),
+        Cell::Unbound => UNBOUND_TAG,
+        Cell::Bound(r) => BOUND_TAG + ref_bits(r),
+        Cell::Int(v) => INT_TAG + bits_of(v) as u64 * STAMP_AT,
+        Cell::Head { functor, arity } => HEAD_TAG
+            + functor as u64 * FUNCTOR_AT
+            + arity as u64 * ARITY_AT,
+        Cell::Argument(r) => ARGUMENT_TAG + ref_bits(r),
     }
 }
 
@@ -100,8 +123,11 @@ pub fn pack_link(l: Link) -> u64
     ensures { λ r. ⌜ r ≡ heapWord 12 (Linked l) ⌝ }
 {
     match l {
-        Link::Last { stamp } => 6 * TAG_AT + stamp as u64 * STAMP_AT,
-        Link::Joined { stamp, next } => 6 * TAG_AT + stamp as u64 * STAMP_AT + HAS_NEXT_AT + next as u64 * NEXT_AT,
+        Link::Last { stamp } => LINK_TAG + stamp as u64 * STAMP_AT,
+        Link::Joined { stamp, next } => LINK_TAG
+            + stamp as u64 * STAMP_AT
+            + HAS_NEXT_AT
+            + next as u64 * NEXT_AT,
     }
 }
 
@@ -136,18 +162,22 @@ fn exactly(w: u64, x: Word) -> Word
     if pack_word(x) == w { x } else { Word::Broken }
 }
 
-// a structure's head, if its arity is 0 to 14
-fn with_arity(n: u8, x: Word) -> Word
-    ensures { λ r. ⌜ r ≡ withArity n x ⌝ }
-{
-    if n <= 14 { x } else { Word::Broken }
-}
-
+// A structure's head, if its arity is 0 to 14.
 fn head(w: u64) -> Word
-    ensures { λ r. ⌜ r ≡ withArity (bits 40 4 w) (exactWord 12 w (Filled (Head (bits 44 16 w) (bits 40 4 w)))) ⌝ }
+    ensures { λ r. ⌜ r ≡ headOf 12 w ⌝ }
 {
     let n = arity(w);
-    with_arity(n, exactly(w, Word::Filled(Cell::Head { functor: functor(w), arity: n })))
+    if n <= 14 {
+        exactly(
+            w,
+            Word::Filled(Cell::Head {
+                functor: functor(w),
+                arity: n,
+            }),
+        )
+    } else {
+        Word::Broken
+    }
 }
 
 pub fn unpack_heap(w: u64) -> Word

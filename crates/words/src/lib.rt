@@ -1,9 +1,9 @@
 // The words of document 01. These types are also the data of the machine's definitions: a contract says `r ≡ decode w`, with no translation.
 
-pub mod integers;
-pub mod heap;
-pub mod registers;
 pub mod answers;
+pub mod heap;
+pub mod integers;
+pub mod registers;
 pub mod steps;
 
 // A cell of a region: the region's stamp, and the cell's address, page x 16 + word.

@@ -3,16 +3,26 @@
 ghost use mathlib.Core.Path.{_≡_};
 ghost use Rattle.words.specs.Words.{registerWord, unpackRegister};
 ghost use Rattle.words.specs.Exact.{exactRegister};
-use crate::heap::{ref_bits, reference, stamp, tag, STAMP_AT, TAG_AT};
-use crate::{Held, Register};
+use crate::Held;
+use crate::Register;
+use crate::heap::STAMP_AT;
+use crate::heap::TAG_AT;
+use crate::heap::ref_bits;
+use crate::heap::reference;
+use crate::heap::stamp;
+use crate::heap::tag;
+
+const REGION_TAG: u64 = 7 * TAG_AT;
+
+const TERM_TAG: u64 = 8 * TAG_AT;
 
 pub fn pack_register(r: Register) -> u64
     ensures { λ w. ⌜ w ≡ registerWord 12 r ⌝ }
 {
     match r {
         Register::Empty => 0,
-        Register::Region(s) => 7 * TAG_AT + s as u64 * STAMP_AT,
-        Register::Term(t) => 8 * TAG_AT + ref_bits(t),
+        Register::Region(s) => REGION_TAG + s as u64 * STAMP_AT,
+        Register::Term(t) => TERM_TAG + ref_bits(t),
     }
 }
 

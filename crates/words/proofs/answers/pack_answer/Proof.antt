@@ -9,15 +9,15 @@ unfolding answerWord clippedAnswer
 pack-answer-spec =
     tie.close
     (tie.spec
-    (λ c. search needs) -- cast-result
-    (λ c. search needs) -- mul-result
-    (λ c. search needs) -- cast-result-2
-    (λ c. search needs) -- mul-result-2
-    (λ c. search needs) -- add-result
-    (λ c. search needs) -- cast-result-3
-    (λ c. search needs) -- mul-result-3
-    (λ c. search needs) -- add-result-2
-    (λ c. search needs) -- cast-result-4
-    (λ c. search needs) -- mul-result-4
-    (λ c. search needs) -- add-result-3
-    (λ c. search needs)) -- returns
+    (λ c. search needs)  -- cast-result
+    (λ c. search needs)  -- mul-result
+    (λ c. search needs)  -- cast-result-2
+    (λ c. search needs)  -- mul-result-2
+    (λ c. search needs)  -- add-result
+    (λ c. search needs)  -- cast-result-3
+    (λ c. search needs)  -- mul-result-3
+    (λ c. search needs)  -- add-result-2
+    (λ c. search needs)  -- cast-result-4
+    (λ c. search needs)  -- mul-result-4
+    (λ c. search needs)  -- add-result-3
+    (λ c. search needs))  -- returns

@@ -8,8 +8,8 @@ unfolding answerOf
 unpack-answer-spec =
     tie.close
     (tie.spec
-    (λ c. search needs) -- cast-t4
-    (λ c. search needs) -- cast-t7
-    (λ c. search needs) -- cast-t10
-    (λ c. search needs) -- cast-t13
-    (λ c. search needs)) -- returns
+    (λ c. search needs)  -- cast-t4
+    (λ c. search needs)  -- cast-t7
+    (λ c. search needs)  -- cast-t10
+    (λ c. search needs)  -- cast-t13
+    (λ c. search needs))  -- returns

@@ -1,6 +1,5 @@
-use borrow.Author.Needs.{needs}
 use Rattle.words.specs.Exact.{exactWord}
-use Rattle.words.proofs.Tests.{same, other}
+use Rattle.words.proofs.Tests.{choosing}
 use Rattle.words.proofs.heap.exactly.Statement.{statement}
 use Rattle.words.proofs.heap.exactly.Tie as tie
 
@@ -9,6 +8,6 @@ unfolding exactWord
 exactly-spec =
     tie.close
     (tie.spec
-    (λ c κs. search (needs, same, other)) -- pack-word-requires
-    (λ c. search (needs, same, other)) -- returns
-    (λ c. search (needs, same, other))) -- returns-2
+    (λ c κs. search choosing)  -- pack-word-requires
+    (λ c. search choosing)  -- returns
+    (λ c. search choosing))  -- returns-2

@@ -6,8 +6,8 @@ pub head-spec : {M : Type 1} → statement M
 head-spec =
     tie.close
     (tie.spec
-    (λ c κs. search parts) -- arity-requires
-    (λ c κs. search parts) -- functor-requires
-    (λ c κs. search parts) -- exactly-requires
-    (λ c κs. search parts) -- with-arity-requires
-    (λ c. search parts)) -- returns
+    (λ c κs. search parts)  -- arity-requires
+    (λ c κs. search parts)  -- functor-requires
+    (λ c κs. search parts)  -- exactly-requires
+    (λ c. search parts)  -- returns
+    (λ c. search parts))  -- returns-2

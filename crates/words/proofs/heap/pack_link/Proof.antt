@@ -6,19 +6,17 @@ pub pack-link-spec : {M : Type 1} → statement M
 pack-link-spec =
     tie.close
     (tie.spec
-    (λ c. search packing) -- enum-known-l
-    (λ c. search packing) -- mul-result
-    (λ c. search packing) -- cast-result
-    (λ c. search packing) -- mul-result-2
-    (λ c. search packing) -- add-result
-    (λ c. search packing) -- enum-known-l-2
-    (λ c. search packing) -- mul-result-3
-    (λ c. search packing) -- cast-result-2
-    (λ c. search packing) -- mul-result-4
-    (λ c. search packing) -- add-result-2
-    (λ c. search packing) -- add-result-3
-    (λ c. search packing) -- cast-result-3
-    (λ c. search packing) -- mul-result-5
-    (λ c. search packing) -- add-result-4
-    (λ c. search packing) -- returns
-    (λ c. search packing)) -- returns-2
+    (λ c. search packing)  -- enum-known-l
+    (λ c. search packing)  -- cast-result
+    (λ c. search packing)  -- mul-result
+    (λ c. search packing)  -- add-result
+    (λ c. search packing)  -- enum-known-l-2
+    (λ c. search packing)  -- cast-result-2
+    (λ c. search packing)  -- mul-result-2
+    (λ c. search packing)  -- add-result-2
+    (λ c. search packing)  -- add-result-3
+    (λ c. search packing)  -- cast-result-3
+    (λ c. search packing)  -- mul-result-3
+    (λ c. search packing)  -- add-result-4
+    (λ c. search packing)  -- returns
+    (λ c. search packing))  -- returns-2

@@ -6,13 +6,13 @@ pub pack-word-spec : {M : Type 1} → statement M
 pack-word-spec =
     tie.close
     (tie.spec
-    (λ c. search packing) -- enum-told
-    (λ c. search packing) -- enum-known-x
-    (λ c κs. search packing) -- pack-cell-requires
-    (λ c. search packing) -- enum-known-x-2
-    (λ c κs. search packing) -- pack-link-requires
-    (λ c. search packing) -- enum-told-2
-    (λ c. search packing) -- returns
-    (λ c. search packing) -- returns-2
-    (λ c. search packing) -- returns-3
-    (λ c. search packing)) -- returns-4
+    (λ c. search packing)  -- enum-told
+    (λ c. search packing)  -- enum-known-x
+    (λ c κs. search packing)  -- pack-cell-requires
+    (λ c. search packing)  -- enum-known-x-2
+    (λ c κs. search packing)  -- pack-link-requires
+    (λ c. search packing)  -- enum-told-2
+    (λ c. search packing)  -- returns
+    (λ c. search packing)  -- returns-2
+    (λ c. search packing)  -- returns-3
+    (λ c. search packing))  -- returns-4

@@ -6,6 +6,6 @@ pub reference-spec : {M : Type 1} → statement M
 reference-spec =
     tie.close
     (tie.spec
-    (λ c κs. search parts) -- stamp-requires
-    (λ c κs. search parts) -- address-requires
-    (λ c. search parts)) -- returns
+    (λ c κs. search parts)  -- stamp-requires
+    (λ c κs. search parts)  -- address-requires
+    (λ c. search parts))  -- returns

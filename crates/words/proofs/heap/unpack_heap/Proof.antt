@@ -8,23 +8,23 @@ unfolding wellFormed
 unpack-heap-spec =
     tie.close
     (tie.spec
-    (λ c κs. search unpacking) -- tag-requires
-    (λ c κs. search unpacking) -- exactly-requires
-    (λ c κs. search unpacking) -- exactly-requires-2
-    (λ c κs. search unpacking) -- reference-requires
-    (λ c κs. search unpacking) -- exactly-requires-3
-    (λ c κs. search unpacking) -- value-requires
-    (λ c κs. search unpacking) -- exactly-requires-4
-    (λ c κs. search unpacking) -- head-requires
-    (λ c κs. search unpacking) -- reference-requires-2
-    (λ c κs. search unpacking) -- exactly-requires-5
-    (λ c κs. search unpacking) -- link-requires
-    (λ c κs. search unpacking) -- exactly-requires-6
-    (λ c. search unpacking) -- returns
-    (λ c. search unpacking) -- returns-2
-    (λ c. search unpacking) -- returns-3
-    (λ c. search unpacking) -- returns-4
-    (λ c. search unpacking) -- returns-5
-    (λ c. search unpacking) -- returns-6
-    (λ c. search unpacking) -- returns-7
-    (λ c. search unpacking)) -- returns-8
+    (λ c κs. search unpacking)  -- tag-requires
+    (λ c κs. search unpacking)  -- exactly-requires
+    (λ c κs. search unpacking)  -- exactly-requires-2
+    (λ c κs. search unpacking)  -- reference-requires
+    (λ c κs. search unpacking)  -- exactly-requires-3
+    (λ c κs. search unpacking)  -- value-requires
+    (λ c κs. search unpacking)  -- exactly-requires-4
+    (λ c κs. search unpacking)  -- head-requires
+    (λ c κs. search unpacking)  -- reference-requires-2
+    (λ c κs. search unpacking)  -- exactly-requires-5
+    (λ c κs. search unpacking)  -- link-requires
+    (λ c κs. search unpacking)  -- exactly-requires-6
+    (λ c. search unpacking)  -- returns
+    (λ c. search unpacking)  -- returns-2
+    (λ c. search unpacking)  -- returns-3
+    (λ c. search unpacking)  -- returns-4
+    (λ c. search unpacking)  -- returns-5
+    (λ c. search unpacking)  -- returns-6
+    (λ c. search unpacking)  -- returns-7
+    (λ c. search unpacking))  -- returns-8

@@ -7,7 +7,7 @@ cast-result : tie.Need-cast-result
 cast-result c = rw (complement-is _ (c .before .fits .x) (c .if1 .taken)) (tt, omega (arith, negative _ (c .before .fits .x) (c .if1 .taken)))
 
 sub-result : tie.Need-sub-result
-sub-result c = rw (complement-is _ (c .before .fits .x) (c .if1 .taken)) (omega arith)
+sub-result c = rw (complement-is _ (c .before .fits .x) (c .if1 .taken)) (omega (arith, negative _ (c .before .fits .x) (c .if1 .taken)))
 
 cast-result-2 : tie.Need-cast-result-2
 cast-result-2 c = rw (value-is _ (c .before .fits .x) (c .if1 .left)) (tt, omega (arith, natural _ (c .before .fits .x) (c .if1 .left)))

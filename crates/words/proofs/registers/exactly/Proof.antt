@@ -1,6 +1,5 @@
-use borrow.Author.Needs.{needs}
 use Rattle.words.specs.Exact.{exactRegister}
-use Rattle.words.proofs.Tests.{same, other}
+use Rattle.words.proofs.Tests.{choosing}
 use Rattle.words.proofs.registers.exactly.Statement.{statement}
 use Rattle.words.proofs.registers.exactly.Tie as tie
 
@@ -9,6 +8,6 @@ unfolding exactRegister
 exactly-spec =
     tie.close
     (tie.spec
-    (λ c κs. search (needs, same, other)) -- pack-register-requires
-    (λ c. search (needs, same, other)) -- returns
-    (λ c. search (needs, same, other))) -- returns-2
+    (λ c κs. search choosing)  -- pack-register-requires
+    (λ c. search choosing)  -- returns
+    (λ c. search choosing))  -- returns-2

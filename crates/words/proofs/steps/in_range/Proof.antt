@@ -6,7 +6,7 @@ pub in-range-spec : {M : Type 1} → statement M
 in-range-spec =
     tie.close
     (tie.spec
-    (λ c. search ranges) -- add-if2
-    (λ c. search ranges) -- returns
-    (λ c. search ranges) -- returns-2
-    (λ c. search ranges)) -- returns-3
+    (λ c. search ranges)  -- add-if2
+    (λ c. search ranges)  -- returns
+    (λ c. search ranges)  -- returns-2
+    (λ c. search ranges))  -- returns-3

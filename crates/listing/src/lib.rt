@@ -1,0 +1,4 @@
+// What a program over the memory manager reads and prints: the words of a step file, and the lines of document 01.
+
+pub mod printing;
+pub mod reading;
