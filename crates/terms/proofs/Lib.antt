@@ -9,3 +9,4 @@ pub mod Meeting
 pub mod Named
 pub mod Cycle
 pub mod Whole
+pub mod Eager
