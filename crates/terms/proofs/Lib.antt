@@ -4,6 +4,7 @@ pub mod Placing
 pub mod FoundWords
 pub mod Operands
 pub mod Building
+pub mod Arguments
 pub mod Meeting
 pub mod Named
 pub mod Cycle

@@ -5,25 +5,28 @@ use mathlib.Core.Option.{none, some}
 use Prim.Native.Nat.{ℕ, zero, suc, _+_, _*_, _%_, _^_}
 use lib.Dec.{leb}
 use lib.IntN.{ℤ}
-use lib.ListN.{length}
+use lib.ListN.{length, set}
 use Rattle.laws.specs.declared.Sought.{Sought}
 use Rattle.laws.specs.declared.Sought.the-variants.{At, Nowhere}
 use Rattle.laws.specs.Pick.{pick}
+use Rattle.laws.specs.Loops.{allOf}
 use Rattle.words.specs.declared.Ref.{Ref}
 use Rattle.words.specs.declared.Cell.the-variants.{Unbound, Int, Head, Argument}
 use Rattle.words.specs.declared.Register.the-variants.{Empty, Region, Term}
 use Rattle.words.specs.declared.Held.{Held}
 use Rattle.words.specs.declared.Held.the-variants as Held
 use Rattle.words.specs.declared.Answer.{Answer}
-use Rattle.words.specs.Words.{cellWord, linkWord, registerWord}
+use Rattle.words.specs.Words.{cellWord, linkWord, registerWord, refOf}
 use Rattle.words.specs.Answers.{plain}
 use Rattle.store.specs.Pages.{lowestFree, fill, livePage, onSought}
-use Rattle.store.specs.Rows.{present, registerSet}
+use Rattle.store.specs.Rows.{present, registerAt, registerSet}
 use Rattle.store.specs.Memory.{Memory, fillAll, nextAt}
 use Rattle.store.specs.Make.{pageStarted}
 use Rattle.terms.specs.declared.build.Home.{Home}
 use Rattle.terms.specs.declared.build.Home.the-variants.{Gone, Newest}
-use Rattle.terms.specs.Deref.{heldAt}
+use Rattle.terms.specs.declared.deref.Operand.{Operand}
+use Rattle.terms.specs.declared.deref.Operand.the-variants.{Missing, Live}
+use Rattle.terms.specs.Deref.{heldAt, operandAt}
 
 -- ---- where a term goes. n is the present copy, p the newest page of the region of stamp s
 
@@ -95,3 +98,45 @@ variableWords = cellWord 12 Unbound ∷ []
 
 abbrev pub integerWords : ℤ → List ℕ
 integerWords v = cellWord 12 (Int v) ∷ []
+
+-- ---- op 5: a structure of n arguments, in the registers from b on
+
+unfoldable pub isLive : Operand → Bool
+isLive Missing = false
+isLive (Live r) = true
+
+-- each argument is a term whose region is in the present copy
+unfoldable pub argumentsLive : ℕ → ℕ → List ℕ → List ℕ → List ℕ → Bool
+argumentsLive n b h t u = allOf (λ i. isLive (operandAt h t u i)) n b
+
+-- the reference in register i as it stands, not followed, as an argument
+unfoldable pub argumentWord : List ℕ → ℕ → ℕ
+argumentWord t i = cellWord 12 (Argument (refOf 12 (registerAt t (present t) i)))
+
+unfoldable pub argumentWords : List ℕ → ℕ → ℕ → List ℕ
+argumentWords t zero b = []
+argumentWords t (suc n) b = argumentWord t b ∷ argumentWords t n (suc b)
+
+abbrev pub structureWords : ℕ → ℕ → ℕ → List ℕ → List ℕ
+structureWords f n b t = cellWord 12 (Head f n) ∷ argumentWords t n b
+
+-- the same words, put one after another from word k of a list on
+unfoldable pub argumentsPut : List ℕ → ℕ → ℕ → ℕ → List ℕ → List ℕ
+argumentsPut t zero b k x = x
+argumentsPut t (suc n) b k x = argumentsPut t n (suc b) (suc k) (set x k (argumentWord t b))
+
+-- 2 at an arity over 14, and if a register is past 31
+unfoldable pub onStructure : {A : Type 0} → ℕ → ℕ → A → A → A
+onStructure n b refused built = pick (leb n 14) (pick (leb (b + n) 32) built refused) refused
+
+unfoldable pub structureAnswer : ℕ → ℕ → ℕ → ℕ → ℕ → ℕ → List ℕ → List ℕ → List ℕ → Answer
+structureAnswer first pages a b f n h t u =
+    onStructure n b (plain 2) (buildAnswer first pages a (argumentsLive n b h t u) (structureWords f n b t) h t u)
+
+unfoldable pub structureTables : ℕ → ℕ → ℕ → ℕ → ℕ → ℕ → ℕ → List ℕ → List ℕ → List ℕ → List ℕ
+structureTables first pages d a b f n h t u =
+    onStructure n b t (buildTables first pages d a (argumentsLive n b h t u) (structureWords f n b t) h t u)
+
+unfoldable pub structureMemory : ℕ → ℕ → ℕ → ℕ → ℕ → ℕ → List ℕ → Memory → Memory
+structureMemory first pages a b f n t m =
+    onStructure n b m (buildMemory first pages a (argumentsLive n b (m .heap) t (m .turned)) (structureWords f n b t) t m)

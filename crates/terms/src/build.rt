@@ -2,20 +2,23 @@
 
 ghost use mathlib.Core.Bool.{true};
 ghost use mathlib.Core.Path.{_≡_};
-ghost use Prim.Native.Nat.{_+_, _*_};
+ghost use Prim.Native.Nat.{_+_, _-_, _*_};
+ghost use lib.ListN.{set, replicate};
+ghost use Rattle.words.specs.declared.Cell.the-variants.{Head};
 ghost use Rattle.words.specs.declared.Register.the-variants.{Term};
-ghost use Rattle.words.specs.Words.{registerWord};
+ghost use Rattle.words.specs.Words.{cellWord, registerWord};
 ghost use Rattle.store.specs.Memory.{memory, fillAll};
 ghost use Rattle.store.specs.Make.{unturned};
 ghost use Rattle.store.specs.Rows.{registerSet};
-ghost use Rattle.terms.specs.Build.{pageJoined, placeOf, placed, cellOf, putAnswer, putTables, homeAt, buildAnswer, buildTables, buildMemory, variableWords, integerWords};
-use crate::deref::held;
+ghost use Rattle.terms.specs.Deref.{operandAt};
+ghost use Rattle.terms.specs.Build.{pageJoined, placeOf, placed, cellOf, putAnswer, putTables, homeAt, buildAnswer, buildTables, buildMemory, variableWords, integerWords, isLive, argumentsLive, argumentWord, argumentsPut, structureAnswer, structureTables, structureMemory};
+use crate::deref::{held, live_term, Operand};
 use laws::Sought;
 use store::cells;
 use store::make;
 use store::pages;
 use store::registers;
-use words::heap::{pack_cell, pack_link};
+use words::heap::{pack_cell, pack_link, reference};
 use words::registers::pack_register;
 use words::{Answer, Cell, Held, Link, Ref, Register};
 
@@ -139,4 +142,87 @@ pub fn integer(heap: &mut [u64], tables: &mut [u64], born: &mut [u8], turned: &[
 {
     let term = [pack_cell(Cell::Int(value))];
     build(heap, tables, born, turned, first, pages, d, a, true, &term)
+}
+
+fn is_live(heap: &[u64], tables: &[u64], turned: &[u8], i: u8) -> bool
+    ensures { λ r. ⌜ r ≡ isLive (operandAt (now (heap .entry)) (now (tables .entry)) (now (turned .entry)) i) ⌝ }
+{
+    let Operand::Live(_) = live_term(heap, tables, turned, i) else {
+        return false;
+    };
+    true
+}
+
+// Does each of the registers from b up to the end hold a term of a live region?
+fn all_live(heap: &[u64], tables: &[u64], turned: &[u8], b: u8, end: u8) -> bool
+    ensures { λ r. ⌜ r ≡ argumentsLive (end - b) b (now (heap .entry)) (now (tables .entry)) (now (turned .entry)) ⌝ }
+{
+    let mut i = b;
+    while i < end {
+        if is_live(heap, tables, turned, i) {
+            i += 1;
+        } else {
+            return false;
+        }
+    }
+    true
+}
+
+// The reference in register i as an argument.
+fn argument(tables: &[u64], i: u8) -> u64
+    ensures { λ r. ⌜ r ≡ argumentWord (now (tables .entry)) i ⌝ }
+{
+    pack_cell(Cell::Argument(reference(registers::register(tables, registers::copy_number(tables), i))))
+}
+
+// The arguments from b up to the end go to the words from 1 on.
+fn put_arguments(tables: &[u64], b: u8, end: u8, term: &mut [u64])
+    ensures { λ _. ⌜ now (term .exit) ≡ argumentsPut (now (tables .entry)) (end - b) b 1 (now (term .entry)) ⌝ }
+{
+    let mut i = b;
+    let mut k: usize = 1;
+    while i < end {
+        cells::put(term, k, argument(tables, i));
+        i += 1;
+        k += 1;
+    }
+}
+
+// The words of a structure, in the first of 15: its head, and its arguments.
+fn structure_term(tables: &[u64], b: u8, end: u8, functor: u16, arity: u8) -> [u64; 15]
+    ensures { λ r. ⌜ r ≡ argumentsPut (now (tables .entry)) (end - b) b 1 (set (replicate 15 0) 0 (cellWord 12 (Head functor arity))) ⌝ }
+{
+    let mut term = [0u64; 15];
+    term[0] = pack_cell(Cell::Head { functor, arity });
+    put_arguments(tables, b, end, &mut term);
+    term
+}
+
+// A term goes into the region in register a if its arguments, in the registers from b up to the end, are good.
+fn build_over(heap: &mut [u64], tables: &mut [u64], born: &mut [u8], turned: &[u8], first: u16, pages: u16, d: u8, a: u8, b: u8, end: u8, term: &[u64]) -> Answer
+    ensures answer { λ r. ⌜ r ≡ buildAnswer first pages a (argumentsLive (end - b) b (now (heap .entry)) (now (tables .entry)) (now (turned .entry))) (now (term .entry)) (now (heap .entry)) (now (tables .entry)) (now (turned .entry)) ⌝ }
+    ensures tables { λ _. ⌜ now (tables .exit) ≡ buildTables first pages d a (argumentsLive (end - b) b (now (heap .entry)) (now (tables .entry)) (now (turned .entry))) (now (term .entry)) (now (heap .entry)) (now (tables .entry)) (now (turned .entry)) ⌝ }
+    ensures memory { λ _. ⌜ memory (now (heap .exit)) (now (born .exit)) (now (turned .entry)) ≡ buildMemory first pages a (argumentsLive (end - b) b (now (heap .entry)) (now (tables .entry)) (now (turned .entry))) (now (term .entry)) (now (tables .entry)) (memory (now (heap .entry)) (now (born .entry)) (now (turned .entry))) ⌝ }
+{
+    let good = all_live(heap, tables, turned, b, end);
+    build(heap, tables, born, turned, first, pages, d, a, good, term)
+}
+
+// Op 5.
+pub fn structure(heap: &mut [u64], tables: &mut [u64], born: &mut [u8], turned: &[u8], first: u16, pages: u16, d: u8, a: u8, b: u8, functor: u16, arity: u8) -> Answer
+    ensures answer { λ r. ⌜ r ≡ structureAnswer first pages a b functor arity (now (heap .entry)) (now (tables .entry)) (now (turned .entry)) ⌝ }
+    ensures tables { λ _. ⌜ now (tables .exit) ≡ structureTables first pages d a b functor arity (now (heap .entry)) (now (tables .entry)) (now (turned .entry)) ⌝ }
+    ensures memory { λ _. ⌜ memory (now (heap .exit)) (now (born .exit)) (now (turned .entry)) ≡ structureMemory first pages a b functor arity (now (tables .entry)) (memory (now (heap .entry)) (now (born .entry)) (now (turned .entry))) ⌝ }
+{
+    if 14 < arity {
+        return Answer { status: 2, kind: 0, pairs: 0, payload: 0 };
+    }
+    let last = b as u16 + arity as u16;
+    if 32 < last {
+        return Answer { status: 2, kind: 0, pairs: 0, payload: 0 };
+    }
+    let end = last as u8;
+    let term = structure_term(tables, b, end, functor, arity);
+    let words = arity as usize + 1;
+    build_over(heap, tables, born, turned, first, pages, d, a, b, end, &term[0..words])
 }
