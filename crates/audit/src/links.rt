@@ -3,16 +3,39 @@
 ghost use mathlib.Core.Path.{_≡_};
 ghost use Rattle.laws.specs.Loops.{seek};
 ghost use Rattle.audit.specs.Links.{
-    isAt, hasNext, nextPage, namesNext, endsIn, goneOk, spanOk, regionOk, togetherOk, marksOk, chainOk, followsOk, lastOk, joinedOk, linkOk, homeOf, linkedOk, heldOk, pageOk
+  isAt,
+  hasNext,
+  nextPage,
+  namesNext,
+  endsIn,
+  goneOk,
+  spanOk,
+  regionOk,
+  togetherOk,
+  marksOk,
+  chainOk,
+  followsOk,
+  lastOk,
+  joinedOk,
+  linkOk,
+  homeOf,
+  linkedOk,
+  heldOk,
+  pageOk,
 };
-use crate::cells::{all_blank, cells_ok};
-use crate::live::{newest_copy, of_stamp, page_in, stamp_in};
 use crate::Home;
+use crate::cells::all_blank;
+use crate::cells::cells_ok;
+use crate::live::newest_copy;
+use crate::live::of_stamp;
+use crate::live::page_in;
+use crate::live::stamp_in;
 use laws::Sought;
 use store::cells::mark;
 use store::pages;
+use words::Link;
+use words::Word;
 use words::heap;
-use words::{Link, Word};
 
 fn is_at(k: Sought, p: usize) -> bool
     ensures { λ r. ⌜ r ≡ isAt k p ⌝ }
@@ -38,7 +61,11 @@ fn next_page(words: &[u64], p: usize) -> u16
 fn names_next(words: &[u64], q: u16, p: usize) -> bool
     ensures { λ r. ⌜ r ≡ namesNext (now (words .entry)) q p ⌝ }
 {
-    if has_next(words, p) { next_page(words, p) == q } else { false }
+    if has_next(words, p) {
+        next_page(words, p) == q
+    } else {
+        false
+    }
 }
 
 // The first page whose next page is q.
@@ -89,21 +116,33 @@ fn span_ok(born: &[u8], turned: &[u8], n: u8, p: usize) -> bool
     if m == 0 {
         false
     } else {
-        if m <= n { gone_ok(n, m, pages::link_mark(turned, p)) } else { false }
+        if m <= n {
+            gone_ok(n, m, pages::link_mark(turned, p))
+        } else {
+            false
+        }
     }
 }
 
 fn region_ok(born: &[u8], turned: &[u8], n: u8, next: u64, s: u32, p: usize) -> bool
     ensures { λ r. ⌜ r ≡ regionOk (now (born .entry)) (now (turned .entry)) n next s p ⌝ }
 {
-    if stamp_in(next, s) { span_ok(born, turned, n, p) } else { false }
+    if stamp_in(next, s) {
+        span_ok(born, turned, n, p)
+    } else {
+        false
+    }
 }
 
 fn together_ok(gone: u8, goes: u8, joined: u8, joins: u8, filled: u8) -> bool
     ensures { λ r. ⌜ r ≡ togetherOk gone goes joined joins filled ⌝ }
 {
     if goes == gone {
-        if joined <= joins { filled == joins } else { false }
+        if joined <= joins {
+            filled == joins
+        } else {
+            false
+        }
     } else {
         false
     }
@@ -130,12 +169,25 @@ fn chain_ok(first: u16, pages: u16, words: &[u64], p: usize, q: u16) -> bool
     }
 }
 
-fn follows_ok(first: u16, pages: u16, words: &[u64], born: &[u8], turned: &[u8], s: u32, p: usize, q: u16) -> bool
+fn follows_ok(
+    first: u16,
+    pages: u16,
+    words: &[u64],
+    born: &[u8],
+    turned: &[u8],
+    s: u32,
+    p: usize,
+    q: u16,
+) -> bool
     ensures { λ r. ⌜ r ≡ followsOk first pages (now (words .entry)) (now (born .entry)) (now (turned .entry)) s p q ⌝ }
 {
     if page_in(first, pages, q) {
         if of_stamp(words, s, q as usize) {
-            if marks_ok(born, turned, p, q) { chain_ok(first, pages, words, p, q) } else { false }
+            if marks_ok(born, turned, p, q) {
+                chain_ok(first, pages, words, p, q)
+            } else {
+                false
+            }
         } else {
             false
         }
@@ -144,7 +196,17 @@ fn follows_ok(first: u16, pages: u16, words: &[u64], born: &[u8], turned: &[u8],
     }
 }
 
-fn last_ok(first: u16, pages: u16, words: &[u64], born: &[u8], turned: &[u8], n: u8, next: u64, s: u32, p: usize) -> bool
+fn last_ok(
+    first: u16,
+    pages: u16,
+    words: &[u64],
+    born: &[u8],
+    turned: &[u8],
+    n: u8,
+    next: u64,
+    s: u32,
+    p: usize,
+) -> bool
     ensures { λ r. ⌜ r ≡ lastOk first pages (now (words .entry)) (now (born .entry)) (now (turned .entry)) n next s p ⌝ }
 {
     if region_ok(born, turned, n, next, s, p) {
@@ -154,7 +216,18 @@ fn last_ok(first: u16, pages: u16, words: &[u64], born: &[u8], turned: &[u8], n:
     }
 }
 
-fn joined_ok(first: u16, pages: u16, words: &[u64], born: &[u8], turned: &[u8], n: u8, next: u64, s: u32, p: usize, q: u16) -> bool
+fn joined_ok(
+    first: u16,
+    pages: u16,
+    words: &[u64],
+    born: &[u8],
+    turned: &[u8],
+    n: u8,
+    next: u64,
+    s: u32,
+    p: usize,
+    q: u16,
+) -> bool
     ensures { λ r. ⌜ r ≡ joinedOk first pages (now (words .entry)) (now (born .entry)) (now (turned .entry)) n next s p q ⌝ }
 {
     if region_ok(born, turned, n, next, s, p) {
@@ -164,12 +237,33 @@ fn joined_ok(first: u16, pages: u16, words: &[u64], born: &[u8], turned: &[u8], 
     }
 }
 
-fn link_ok(first: u16, pages: u16, words: &[u64], born: &[u8], turned: &[u8], n: u8, next: u64, l: Link, p: usize) -> bool
+fn link_ok(
+    first: u16,
+    pages: u16,
+    words: &[u64],
+    born: &[u8],
+    turned: &[u8],
+    n: u8,
+    next: u64,
+    l: Link,
+    p: usize,
+) -> bool
     ensures { λ r. ⌜ r ≡ linkOk first pages (now (words .entry)) (now (born .entry)) (now (turned .entry)) n next l p ⌝ }
 {
     match l {
         Link::Last { stamp } => last_ok(first, pages, words, born, turned, n, next, stamp, p),
-        Link::Joined { stamp, next: q } => joined_ok(first, pages, words, born, turned, n, next, stamp, p, q),
+        Link::Joined { stamp, next: q } => joined_ok(
+            first,
+            pages,
+            words,
+            born,
+            turned,
+            n,
+            next,
+            stamp,
+            p,
+            q,
+        ),
     }
 }
 
@@ -179,28 +273,69 @@ fn home_of(born: &[u8], turned: &[u8], n: u8, l: Link, p: usize) -> Home
     match l {
         Link::Last { stamp } => {
             let newest = newest_copy(turned, n, p);
-            Home { stamp, newest, full: newest }
+            Home {
+                stamp,
+                newest,
+                full: newest,
+            }
         }
         Link::Joined { stamp, next } => {
             let newest = newest_copy(turned, n, p);
-            Home { stamp, newest, full: pages::link_mark(born, next as usize) }
+            Home {
+                stamp,
+                newest,
+                full: pages::link_mark(born, next as usize),
+            }
         }
     }
 }
 
-fn linked_ok(first: u16, pages: u16, words: &[u64], born: &[u8], turned: &[u8], n: u8, next: u64, l: Link, p: u32) -> bool
+fn linked_ok(
+    first: u16,
+    pages: u16,
+    words: &[u64],
+    born: &[u8],
+    turned: &[u8],
+    n: u8,
+    next: u64,
+    l: Link,
+    p: u32,
+) -> bool
     ensures { λ r. ⌜ r ≡ linkedOk first pages (now (words .entry)) (now (born .entry)) (now (turned .entry)) n next l p ⌝ }
 {
     if link_ok(first, pages, words, born, turned, n, next, l, p as usize) {
         let home = home_of(born, turned, n, l, p as usize);
         let last = pages::link_mark(born, p as usize);
-        cells_ok(first, pages, words, born, turned, n, next, home, p, 1, 0, last)
+        cells_ok(
+            first,
+            pages,
+            words,
+            born,
+            turned,
+            n,
+            next,
+            home,
+            p,
+            1,
+            0,
+            last,
+        )
     } else {
         false
     }
 }
 
-fn held_ok(first: u16, pages: u16, words: &[u64], born: &[u8], turned: &[u8], n: u8, next: u64, x: Word, p: u32) -> bool
+fn held_ok(
+    first: u16,
+    pages: u16,
+    words: &[u64],
+    born: &[u8],
+    turned: &[u8],
+    n: u8,
+    next: u64,
+    x: Word,
+    p: u32,
+) -> bool
     ensures { λ r. ⌜ r ≡ heldOk first pages (now (words .entry)) (now (born .entry)) (now (turned .entry)) n next x p ⌝ }
 {
     match x {
@@ -211,13 +346,32 @@ fn held_ok(first: u16, pages: u16, words: &[u64], born: &[u8], turned: &[u8], n:
     }
 }
 
-pub fn page_ok(first: u16, pages: u16, words: &[u64], born: &[u8], turned: &[u8], n: u8, next: u64, p: u32) -> bool
+pub fn page_ok(
+    first: u16,
+    pages: u16,
+    words: &[u64],
+    born: &[u8],
+    turned: &[u8],
+    n: u8,
+    next: u64,
+    p: u32,
+) -> bool
     ensures { λ r. ⌜ r ≡ pageOk first pages (now (words .entry)) (now (born .entry)) (now (turned .entry)) n next p ⌝ }
 {
     let w = pages::link(words, p as usize);
     if w == 0 {
         all_blank(words, born, turned, 16, p, 0)
     } else {
-        held_ok(first, pages, words, born, turned, n, next, heap::unpack_heap(w), p)
+        held_ok(
+            first,
+            pages,
+            words,
+            born,
+            turned,
+            n,
+            next,
+            heap::unpack_heap(w),
+            p,
+        )
     }
 }

@@ -3,13 +3,26 @@
 ghost use mathlib.Core.Path.{_≡_};
 ghost use Rattle.laws.specs.Loops.{allOf};
 ghost use Rattle.audit.specs.Rows.{registerOk, holdsOk, rowWordOk, rowOk, isZero, zeroTo, stampOk, countOk, headOk, rowsOk};
-use crate::live::{ref_ok, stamp_in};
-use store::cells::{mark, word};
+use crate::live::ref_ok;
+use crate::live::stamp_in;
+use store::cells::mark;
+use store::cells::word;
 use store::registers::register;
+use words::Held;
+use words::Register;
 use words::registers::unpack_register;
-use words::{Held, Register};
 
-fn register_ok(first: u16, pages: u16, heap: &[u64], born: &[u8], turned: &[u8], n: u8, next: u64, r: Register, c: u8) -> bool
+fn register_ok(
+    first: u16,
+    pages: u16,
+    heap: &[u64],
+    born: &[u8],
+    turned: &[u8],
+    n: u8,
+    next: u64,
+    r: Register,
+    c: u8,
+) -> bool
     ensures { λ b. ⌜ b ≡ registerOk first pages (now (heap .entry)) (now (born .entry)) (now (turned .entry)) n next r c ⌝ }
 {
     match r {
@@ -19,7 +32,17 @@ fn register_ok(first: u16, pages: u16, heap: &[u64], born: &[u8], turned: &[u8],
     }
 }
 
-fn holds_ok(first: u16, pages: u16, heap: &[u64], born: &[u8], turned: &[u8], n: u8, next: u64, x: Held, c: u8) -> bool
+fn holds_ok(
+    first: u16,
+    pages: u16,
+    heap: &[u64],
+    born: &[u8],
+    turned: &[u8],
+    n: u8,
+    next: u64,
+    x: Held,
+    c: u8,
+) -> bool
     ensures { λ b. ⌜ b ≡ holdsOk first pages (now (heap .entry)) (now (born .entry)) (now (turned .entry)) n next x c ⌝ }
 {
     match x {
@@ -28,14 +51,45 @@ fn holds_ok(first: u16, pages: u16, heap: &[u64], born: &[u8], turned: &[u8], n:
     }
 }
 
-fn row_word_ok(first: u16, pages: u16, heap: &[u64], tables: &[u64], born: &[u8], turned: &[u8], n: u8, next: u64, c: u8, r: u8) -> bool
+fn row_word_ok(
+    first: u16,
+    pages: u16,
+    heap: &[u64],
+    tables: &[u64],
+    born: &[u8],
+    turned: &[u8],
+    n: u8,
+    next: u64,
+    c: u8,
+    r: u8,
+) -> bool
     ensures { λ b. ⌜ b ≡ rowWordOk first pages (now (heap .entry)) (now (born .entry)) (now (turned .entry)) n next (now (tables .entry)) c r ⌝ }
 {
     let w = register(tables, c, r);
-    holds_ok(first, pages, heap, born, turned, n, next, unpack_register(w), c)
+    holds_ok(
+        first,
+        pages,
+        heap,
+        born,
+        turned,
+        n,
+        next,
+        unpack_register(w),
+        c,
+    )
 }
 
-fn row_ok(first: u16, pages: u16, heap: &[u64], tables: &[u64], born: &[u8], turned: &[u8], n: u8, next: u64, c: u8) -> bool
+fn row_ok(
+    first: u16,
+    pages: u16,
+    heap: &[u64],
+    tables: &[u64],
+    born: &[u8],
+    turned: &[u8],
+    n: u8,
+    next: u64,
+    c: u8,
+) -> bool
     ensures { λ b. ⌜ b ≡ rowOk first pages (now (heap .entry)) (now (born .entry)) (now (turned .entry)) n next (now (tables .entry)) c ⌝ }
 {
     let mut r = 0;
@@ -50,7 +104,16 @@ fn row_ok(first: u16, pages: u16, heap: &[u64], tables: &[u64], born: &[u8], tur
 }
 
 // The rows of the copies 1 to n.
-fn all_rows_ok(first: u16, pages: u16, heap: &[u64], tables: &[u64], born: &[u8], turned: &[u8], n: u8, next: u64) -> bool
+fn all_rows_ok(
+    first: u16,
+    pages: u16,
+    heap: &[u64],
+    tables: &[u64],
+    born: &[u8],
+    turned: &[u8],
+    n: u8,
+    next: u64,
+) -> bool
     ensures { λ b. ⌜ b ≡ allOf (rowOk first pages (now (heap .entry)) (now (born .entry)) (now (turned .entry)) n next (now (tables .entry))) n 1 ⌝ }
 {
     let mut c: u16 = 1;
@@ -102,16 +165,34 @@ fn stamp_ok(next: u64) -> bool
 fn count_ok(choices: u8, n: u64) -> bool
     ensures { λ r. ⌜ r ≡ countOk choices n ⌝ }
 {
-    if n == 0 { false } else { n <= choices as u64 + 1 }
+    if n == 0 {
+        false
+    } else {
+        n <= choices as u64 + 1
+    }
 }
 
 pub fn head_ok(choices: u8, tables: &[u64]) -> bool
     ensures { λ r. ⌜ r ≡ headOk choices (now (tables .entry)) ⌝ }
 {
-    if stamp_ok(word(tables, 0)) { count_ok(choices, word(tables, 1)) } else { false }
+    if stamp_ok(word(tables, 0)) {
+        count_ok(choices, word(tables, 1))
+    } else {
+        false
+    }
 }
 
-pub fn rows_ok(first: u16, pages: u16, choices: u8, heap: &[u64], tables: &[u64], born: &[u8], turned: &[u8], n: u8, next: u64) -> bool
+pub fn rows_ok(
+    first: u16,
+    pages: u16,
+    choices: u8,
+    heap: &[u64],
+    tables: &[u64],
+    born: &[u8],
+    turned: &[u8],
+    n: u8,
+    next: u64,
+) -> bool
     ensures { λ b. ⌜ b ≡ rowsOk first pages choices (now (heap .entry)) (now (tables .entry)) (now (born .entry)) (now (turned .entry)) n next ⌝ }
 {
     if all_rows_ok(first, pages, heap, tables, born, turned, n, next) {

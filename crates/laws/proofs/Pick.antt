@@ -6,7 +6,6 @@ use lib.Dec.{ltb, leb, eqb}
 use Rattle.laws.specs.Pick.{pick}
 use borrow.Author.Tests.{lt-ltb, le-ltb, le-leb, lt-leb, eq-eqb, ne-eqb}
 
-
 module _ {A : Type 0} (r x y : A) where
   pub yes : (b : Bool) → b ≡ true → r ≡ x → r ≡ pick b x y
   unfolding pick

@@ -5,6 +5,7 @@ use Prim.Native.Nat.{ℕ, _≤_}
 use lib.Dec.{leb}
 use borrow.Author.Tests.{leb-true, leb-false, eqb-true, eqb-false, le-leb}
 use native.Mathlib.Omega.{arith}
+
 -- what a test says, for omega
 pub ruleset tests = (arith, leb-true, leb-false, eqb-true, eqb-false)
 

@@ -272,7 +272,7 @@ unfolding heapImage
 nothing-left m r s = (
   all-free m r s,
   ap (λ (g : List Region). pagesImage (m .limits .address) g (from (m .limits .pages) (m .limits .first))) (none-shown m r s)
-  ∙ zero-pages (m .limits .address) (m .limits .pages) (m .limits .first),
+      ∙ zero-pages (m .limits .address) (m .limits .pages) (m .limits .first),
 )
 
 pub demand-3 : (limits : Limits) (stamp : ℕ) (ws : List ℕ) → Demand3 limits stamp ws

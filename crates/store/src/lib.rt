@@ -9,8 +9,8 @@ pub enum Which {
 pub mod cells;
 pub mod copies;
 pub mod kill;
+pub mod make;
 pub mod pages;
 pub mod references;
 pub mod registers;
 pub mod undo;
-pub mod make;

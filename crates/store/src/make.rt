@@ -7,9 +7,11 @@ use crate::cells;
 use crate::pages;
 use crate::registers;
 use laws::Sought;
+use words::Answer;
+use words::Link;
+use words::Register;
 use words::heap::pack_link;
 use words::registers::pack_register;
-use words::{Answer, Link, Register};
 
 // The next stamp that no region is given.
 const LAST_STAMP: u32 = 4294967295;
@@ -44,24 +46,52 @@ fn note_region(tables: &mut [u64], n: u8, d: u8, stamp: u32)
     cells::put(tables, 0, stamp as u64 + 1);
 }
 
-pub fn make_region(heap: &mut [u64], tables: &mut [u64], born: &mut [u8], first: u16, pages: u16, slots: u16, d: u8) -> Answer
+pub fn make_region(
+    heap: &mut [u64],
+    tables: &mut [u64],
+    born: &mut [u8],
+    first: u16,
+    pages: u16,
+    slots: u16,
+    d: u8,
+) -> Answer
     ensures answer { λ r. ⌜ r ≡ makeAnswer first pages slots (now (tables .entry)) (now (heap .entry)) ⌝ }
     ensures tables { λ _. ⌜ now (tables .exit) ≡ makeTables first pages slots d (now (tables .entry)) (now (heap .entry)) ⌝ }
     ensures memory { λ _. ⌜ unturned (now (heap .exit)) (now (born .exit)) ≡ makeMemory first pages slots (now (tables .entry)) (unturned (now (heap .entry)) (now (born .entry))) ⌝ }
 {
     let stamp = next_stamp(tables);
     if stamp == LAST_STAMP {
-        return Answer { status: 7, kind: 0, pairs: 0, payload: 0 };
+        return Answer {
+            status: 7,
+            kind: 0,
+            pairs: 0,
+            payload: 0,
+        };
     }
     let taken = pages::slot_count(heap, first, pages);
     if slots as usize <= taken {
-        return Answer { status: 6, kind: 0, pairs: 0, payload: 0 };
+        return Answer {
+            status: 6,
+            kind: 0,
+            pairs: 0,
+            payload: 0,
+        };
     }
     let Sought::At(p) = pages::lowest_free(heap, first, pages) else {
-        return Answer { status: 5, kind: 0, pairs: 0, payload: 0 };
+        return Answer {
+            status: 5,
+            kind: 0,
+            pairs: 0,
+            payload: 0,
+        };
     };
     let n = registers::copy_number(tables);
     start_page(heap, born, n, p as u32, stamp);
     note_region(tables, n, d, stamp);
-    Answer { status: 0, kind: 0, pairs: 0, payload: stamp }
+    Answer {
+        status: 0,
+        kind: 0,
+        pairs: 0,
+        payload: stamp,
+    }
 }

@@ -17,11 +17,11 @@ all-pages-ok-spec =
     (tie.spec
     Inv-loop
     μ-loop
-    (λ c. search holds) -- add-end
-    (λ c. search holds) -- loop-holds
-    (λ c κs. search holds) -- page-ok-requires
-    (λ c. search holds) -- add-p
-    (λ c. search holds) -- loop-less
-    (λ c. search holds) -- loop-again
-    (λ c. search holds) -- returns
-    (λ c. search holds)) -- returns-2
+    (λ c. search holds)  -- add-end
+    (λ c. search holds)  -- loop-holds
+    (λ c κs. search holds)  -- page-ok-requires
+    (λ c. search holds)  -- add-p
+    (λ c. search holds)  -- loop-less
+    (λ c. search holds)  -- loop-again
+    (λ c. search holds)  -- returns
+    (λ c. search holds))  -- returns-2

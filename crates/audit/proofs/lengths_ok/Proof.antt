@@ -8,8 +8,8 @@ unfolding lengthsOk
 lengths-ok-spec =
     tie.close
     (tie.spec
-    (λ c κs. search tests) -- heap-length-ok-requires
-    (λ c. search tests) -- returns
-    (λ c. search tests) -- returns-2
-    (λ c. search tests) -- returns-3
-    (λ c. search tests)) -- returns-4
+    (λ c κs. search tests)  -- heap-length-ok-requires
+    (λ c. search tests)  -- returns
+    (λ c. search tests)  -- returns-2
+    (λ c. search tests)  -- returns-3
+    (λ c. search tests))  -- returns-4

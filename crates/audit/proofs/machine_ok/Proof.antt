@@ -8,9 +8,9 @@ unfolding machineOk
 machine-ok-spec =
     tie.close
     (tie.spec
-    (λ c κs. search tests) -- head-ok-requires
-    (λ c κs. search tests) -- copy-number-requires
-    (λ c κs. search tests) -- word-requires
-    (λ c κs. search tests) -- memory-ok-requires
-    (λ c. search tests) -- returns
-    (λ c. search tests)) -- returns-2
+    (λ c κs. search tests)  -- head-ok-requires
+    (λ c κs. search tests)  -- copy-number-requires
+    (λ c κs. search tests)  -- word-requires
+    (λ c κs. search tests)  -- memory-ok-requires
+    (λ c. search tests)  -- returns
+    (λ c. search tests))  -- returns-2

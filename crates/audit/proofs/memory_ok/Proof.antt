@@ -8,9 +8,9 @@ unfolding memoryOk
 memory-ok-spec =
     tie.close
     (tie.spec
-    (λ c κs. search tests) -- pages-ok-requires
-    (λ c κs. search tests) -- rows-ok-requires
-    (λ c κs. search tests) -- past-ok-requires
-    (λ c. search tests) -- returns
-    (λ c. search tests) -- returns-2
-    (λ c. search tests)) -- returns-3
+    (λ c κs. search tests)  -- pages-ok-requires
+    (λ c κs. search tests)  -- rows-ok-requires
+    (λ c κs. search tests)  -- past-ok-requires
+    (λ c. search tests)  -- returns
+    (λ c. search tests)  -- returns-2
+    (λ c. search tests))  -- returns-3

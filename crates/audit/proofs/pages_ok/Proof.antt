@@ -8,7 +8,7 @@ unfolding pagesOk
 pages-ok-spec =
     tie.close
     (tie.spec
-    (λ c κs. search tests) -- all-pages-ok-requires
-    (λ c κs. search tests) -- slot-count-requires
-    (λ c. search tests) -- returns
-    (λ c. search tests)) -- returns-2
+    (λ c κs. search tests)  -- all-pages-ok-requires
+    (λ c κs. search tests)  -- slot-count-requires
+    (λ c. search tests)  -- returns
+    (λ c. search tests))  -- returns-2

@@ -8,7 +8,7 @@ unfolding pastOk
 past-ok-spec =
     tie.close
     (tie.spec
-    (λ c κs. search tests) -- zero-marks-requires
-    (λ c κs. search tests) -- zero-marks-requires-2
-    (λ c. search tests) -- returns
-    (λ c. search tests)) -- returns-2
+    (λ c κs. search tests)  -- zero-marks-requires
+    (λ c κs. search tests)  -- zero-marks-requires-2
+    (λ c. search tests)  -- returns
+    (λ c. search tests))  -- returns-2

@@ -8,8 +8,8 @@ unfolding soundTest
 sound-spec =
     tie.close
     (tie.spec
-    (λ c κs. search tests) -- lengths-ok-requires
-    (λ c. search tests) -- cast-machine-ok
-    (λ c κs. search tests) -- machine-ok-requires
-    (λ c. search tests) -- returns
-    (λ c. search tests)) -- returns-2
+    (λ c κs. search tests)  -- lengths-ok-requires
+    (λ c. search tests)  -- cast-machine-ok
+    (λ c κs. search tests)  -- machine-ok-requires
+    (λ c. search tests)  -- returns
+    (λ c. search tests))  -- returns-2

@@ -29,25 +29,25 @@ pub +cells-ok-spec : {M : Type 1} → statement M
 +cells-ok-spec =
     close μ-cells-ok
     (λ t. cells-ok-lts.spec (word-reads.Asked, word-reads.Learnt, rest-ok-reads.Asked, rest-ok-reads.Learnt, unpack-heap-reads.Asked, unpack-heap-reads.Learnt, filled-ok-reads.Asked, filled-ok-reads.Learnt, more-after-reads.Asked, more-after-reads.Learnt, mark-reads.Asked, mark-reads.Learnt, cells-ok-below t, cells-ok.Post) (cells-ok-at t) cells-ok.Post
-      (λ c. search word-cases) -- cells-ok-returns
-      (λ c. search word-cases) -- cells-ok-mul-a
-      (λ c. search word-cases) -- cells-ok-add-a
-      (λ c κs. search word-cases) -- cells-ok-word-requires
-      (λ c. search word-cases) -- cells-ok-sub-rest-ok
-      (λ c κs. search word-cases) -- cells-ok-rest-ok-requires
-      (λ c. search word-cases) -- cells-ok-returns-2
-      (λ c κs. search word-cases) -- cells-ok-unpack-heap-requires
-      (λ c. search word-cases) -- cells-ok-enum-told
-      (λ c. search word-cases) -- cells-ok-enum-known-c
-      (λ c κs. search word-cases) -- cells-ok-filled-ok-requires
-      (λ c. search word-cases) -- cells-ok-add-cells-ok
-      (λ c κs. search word-cases) -- cells-ok-more-after-requires
-      (λ c κs. search word-cases) -- cells-ok-mark-requires
-      (λ c κs. search word-cases) -- cells-ok-cells-ok-requires
-      (λ c. search word-cases) -- cells-ok-enum-told-2
-      (λ c. search word-cases) -- cells-ok-enum-told-3
-      (λ c. search word-cases) -- cells-ok-returns-3
-      (λ c. search word-cases) -- cells-ok-returns-4
-      (λ c. search word-cases) -- cells-ok-returns-5
-      (λ c. search word-cases) -- cells-ok-returns-6
-      (λ c. search word-cases)) -- cells-ok-returns-7
+    (λ c. search word-cases)  -- cells-ok-returns
+    (λ c. search word-cases)  -- cells-ok-mul-a
+    (λ c. search word-cases)  -- cells-ok-add-a
+    (λ c κs. search word-cases)  -- cells-ok-word-requires
+    (λ c. search word-cases)  -- cells-ok-sub-rest-ok
+    (λ c κs. search word-cases)  -- cells-ok-rest-ok-requires
+    (λ c. search word-cases)  -- cells-ok-returns-2
+    (λ c κs. search word-cases)  -- cells-ok-unpack-heap-requires
+    (λ c. search word-cases)  -- cells-ok-enum-told
+    (λ c. search word-cases)  -- cells-ok-enum-known-c
+    (λ c κs. search word-cases)  -- cells-ok-filled-ok-requires
+    (λ c. search word-cases)  -- cells-ok-add-cells-ok
+    (λ c κs. search word-cases)  -- cells-ok-more-after-requires
+    (λ c κs. search word-cases)  -- cells-ok-mark-requires
+    (λ c κs. search word-cases)  -- cells-ok-cells-ok-requires
+    (λ c. search word-cases)  -- cells-ok-enum-told-2
+    (λ c. search word-cases)  -- cells-ok-enum-told-3
+    (λ c. search word-cases)  -- cells-ok-returns-3
+    (λ c. search word-cases)  -- cells-ok-returns-4
+    (λ c. search word-cases)  -- cells-ok-returns-5
+    (λ c. search word-cases)  -- cells-ok-returns-6
+    (λ c. search word-cases))  -- cells-ok-returns-7

@@ -17,13 +17,13 @@ all-blank-spec =
     (tie.spec
     Inv-loop
     μ-loop
-    (λ c. search holds) -- mul-a
-    (λ c. search holds) -- add-a
-    (λ c. search holds) -- add-end
-    (λ c. search holds) -- loop-holds
-    (λ c κs. search holds) -- blank-requires
-    (λ c. search holds) -- add-a-2
-    (λ c. search holds) -- loop-less
-    (λ c. search holds) -- loop-again
-    (λ c. search holds) -- returns
-    (λ c. search holds)) -- returns-2
+    (λ c. search holds)  -- mul-a
+    (λ c. search holds)  -- add-a
+    (λ c. search holds)  -- add-end
+    (λ c. search holds)  -- loop-holds
+    (λ c κs. search holds)  -- blank-requires
+    (λ c. search holds)  -- add-a-2
+    (λ c. search holds)  -- loop-less
+    (λ c. search holds)  -- loop-again
+    (λ c. search holds)  -- returns
+    (λ c. search holds))  -- returns-2

@@ -8,8 +8,8 @@ unfolding argumentOk
 argument-ok-spec =
     tie.close
     (tie.spec
-    (λ c. search tests) -- returns
-    (λ c. search tests) -- returns-2
-    (λ c κs. search tests) -- ref-ok-requires
-    (λ c. search tests) -- returns-3
-    (λ c. search tests)) -- returns-4
+    (λ c. search tests)  -- returns
+    (λ c. search tests)  -- returns-2
+    (λ c κs. search tests)  -- ref-ok-requires
+    (λ c. search tests)  -- returns-3
+    (λ c. search tests))  -- returns-4

@@ -8,9 +8,9 @@ unfolding blank
 blank-spec =
     tie.close
     (tie.spec
-    (λ c κs. search tests) -- word-requires
-    (λ c κs. search tests) -- mark-requires
-    (λ c κs. search tests) -- mark-requires-2
-    (λ c. search tests) -- returns
-    (λ c. search tests) -- returns-2
-    (λ c. search tests)) -- returns-3
+    (λ c κs. search tests)  -- word-requires
+    (λ c κs. search tests)  -- mark-requires
+    (λ c κs. search tests)  -- mark-requires-2
+    (λ c. search tests)  -- returns
+    (λ c. search tests)  -- returns-2
+    (λ c. search tests))  -- returns-3

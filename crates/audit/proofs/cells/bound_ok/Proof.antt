@@ -8,9 +8,9 @@ unfolding boundOk
 bound-ok-spec =
     tie.close
     (tie.spec
-    (λ c κs. search tests) -- turned-ok-requires
-    (λ c κs. search tests) -- ref-ok-requires
-    (λ c κs. search tests) -- order-ok-requires
-    (λ c. search tests) -- returns
-    (λ c. search tests) -- returns-2
-    (λ c. search tests)) -- returns-3
+    (λ c κs. search tests)  -- turned-ok-requires
+    (λ c κs. search tests)  -- ref-ok-requires
+    (λ c κs. search tests)  -- order-ok-requires
+    (λ c. search tests)  -- returns
+    (λ c. search tests)  -- returns-2
+    (λ c. search tests))  -- returns-3

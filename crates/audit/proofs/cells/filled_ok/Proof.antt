@@ -8,9 +8,9 @@ unfolding filledOk
 filled-ok-spec =
     tie.close
     (tie.spec
-    (λ c κs. search tests) -- mark-requires
-    (λ c κs. search tests) -- mark-requires-2
-    (λ c κs. search tests) -- born-ok-requires
-    (λ c κs. search tests) -- cell-ok-requires
-    (λ c. search tests) -- returns
-    (λ c. search tests)) -- returns-2
+    (λ c κs. search tests)  -- mark-requires
+    (λ c κs. search tests)  -- mark-requires-2
+    (λ c κs. search tests)  -- born-ok-requires
+    (λ c κs. search tests)  -- cell-ok-requires
+    (λ c. search tests)  -- returns
+    (λ c. search tests))  -- returns-2

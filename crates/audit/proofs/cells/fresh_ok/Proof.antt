@@ -8,5 +8,5 @@ unfolding freshOk
 fresh-ok-spec =
     tie.close
     (tie.spec
-    (λ c. search tests) -- returns
-    (λ c. search tests)) -- returns-2
+    (λ c. search tests)  -- returns
+    (λ c. search tests))  -- returns-2

@@ -8,6 +8,6 @@ unfolding restOk
 rest-ok-spec =
     tie.close
     (tie.spec
-    (λ c κs. search tests) -- all-blank-requires
-    (λ c. search tests) -- returns
-    (λ c. search tests)) -- returns-2
+    (λ c κs. search tests)  -- all-blank-requires
+    (λ c. search tests)  -- returns
+    (λ c. search tests))  -- returns-2

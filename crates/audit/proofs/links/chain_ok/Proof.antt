@@ -8,9 +8,9 @@ unfolding chainOk
 chain-ok-spec =
     tie.close
     (tie.spec
-    (λ c κs. search tests) -- page-before-requires
-    (λ c κs. search tests) -- is-at-requires
-    (λ c. search tests) -- add-ends-in
-    (λ c κs. search tests) -- ends-in-requires
-    (λ c. search tests) -- returns
-    (λ c. search tests)) -- returns-2
+    (λ c κs. search tests)  -- page-before-requires
+    (λ c κs. search tests)  -- is-at-requires
+    (λ c. search tests)  -- add-ends-in
+    (λ c κs. search tests)  -- ends-in-requires
+    (λ c. search tests)  -- returns
+    (λ c. search tests))  -- returns-2

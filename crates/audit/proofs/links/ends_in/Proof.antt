@@ -15,12 +15,12 @@ ends-in-spec =
     (tie.spec
     Inv-loop
     μ-loop
-    (λ c. search endings) -- loop-holds
-    (λ c κs. search endings) -- has-next-requires
-    (λ c κs. search endings) -- next-page-requires
-    (λ c. search endings) -- cast-at
-    (λ c. search endings) -- sub-left
-    (λ c. search endings) -- loop-less
-    (λ c. search endings) -- loop-again
-    (λ c. search endings) -- returns
-    (λ c. search endings)) -- returns-2
+    (λ c. search endings)  -- loop-holds
+    (λ c κs. search endings)  -- has-next-requires
+    (λ c κs. search endings)  -- next-page-requires
+    (λ c. search endings)  -- cast-at
+    (λ c. search endings)  -- sub-left
+    (λ c. search endings)  -- loop-less
+    (λ c. search endings)  -- loop-again
+    (λ c. search endings)  -- returns
+    (λ c. search endings))  -- returns-2

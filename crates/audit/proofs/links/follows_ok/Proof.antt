@@ -8,11 +8,11 @@ unfolding followsOk
 follows-ok-spec =
     tie.close
     (tie.spec
-    (λ c κs. search tests) -- page-in-requires
-    (λ c κs. search tests) -- of-stamp-requires
-    (λ c κs. search tests) -- marks-ok-requires
-    (λ c κs. search tests) -- chain-ok-requires
-    (λ c. search tests) -- returns
-    (λ c. search tests) -- returns-2
-    (λ c. search tests) -- returns-3
-    (λ c. search tests)) -- returns-4
+    (λ c κs. search tests)  -- page-in-requires
+    (λ c κs. search tests)  -- of-stamp-requires
+    (λ c κs. search tests)  -- marks-ok-requires
+    (λ c κs. search tests)  -- chain-ok-requires
+    (λ c. search tests)  -- returns
+    (λ c. search tests)  -- returns-2
+    (λ c. search tests)  -- returns-3
+    (λ c. search tests))  -- returns-4

@@ -6,6 +6,6 @@ pub has-next-spec : {M : Type 1} → statement M
 has-next-spec =
     tie.close
     (tie.spec
-    (λ c κs. search tests) -- link-requires
-    (λ c κs. search tests) -- has-next-requires
-    (λ c. search tests)) -- returns
+    (λ c κs. search tests)  -- link-requires
+    (λ c κs. search tests)  -- has-next-requires
+    (λ c. search tests))  -- returns

@@ -6,11 +6,11 @@ pub home-of-spec : {M : Type 1} → statement M
 home-of-spec =
     tie.close
     (tie.spec
-    (λ c. search link-cases) -- enum-known-l
-    (λ c κs. search link-cases) -- newest-copy-requires
-    (λ c. search link-cases) -- enum-known-l-2
-    (λ c κs. search link-cases) -- newest-copy-requires-2
-    (λ c. search link-cases) -- cast-link-mark
-    (λ c κs. search link-cases) -- link-mark-requires
-    (λ c. search link-cases) -- returns
-    (λ c. search link-cases)) -- returns-2
+    (λ c. search link-cases)  -- enum-known-l
+    (λ c κs. search link-cases)  -- newest-copy-requires
+    (λ c. search link-cases)  -- enum-known-l-2
+    (λ c κs. search link-cases)  -- newest-copy-requires-2
+    (λ c. search link-cases)  -- cast-link-mark
+    (λ c κs. search link-cases)  -- link-mark-requires
+    (λ c. search link-cases)  -- returns
+    (λ c. search link-cases))  -- returns-2

@@ -6,7 +6,7 @@ pub is-at-spec : {M : Type 1} → statement M
 is-at-spec =
     tie.close
     (tie.spec
-    (λ c. search tests) -- enum-known-k
-    (λ c. search tests) -- enum-told
-    (λ c. search tests) -- returns
-    (λ c. search tests)) -- returns-2
+    (λ c. search tests)  -- enum-known-k
+    (λ c. search tests)  -- enum-told
+    (λ c. search tests)  -- returns
+    (λ c. search tests))  -- returns-2

@@ -8,7 +8,7 @@ unfolding joinedOk
 joined-ok-spec =
     tie.close
     (tie.spec
-    (λ c κs. search tests) -- region-ok-requires
-    (λ c κs. search tests) -- follows-ok-requires
-    (λ c. search tests) -- returns
-    (λ c. search tests)) -- returns-2
+    (λ c κs. search tests)  -- region-ok-requires
+    (λ c κs. search tests)  -- follows-ok-requires
+    (λ c. search tests)  -- returns
+    (λ c. search tests))  -- returns-2

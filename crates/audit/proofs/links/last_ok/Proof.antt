@@ -8,8 +8,8 @@ unfolding lastOk
 last-ok-spec =
     tie.close
     (tie.spec
-    (λ c κs. search tests) -- region-ok-requires
-    (λ c κs. search tests) -- newest-page-requires
-    (λ c κs. search tests) -- is-at-requires
-    (λ c. search tests) -- returns
-    (λ c. search tests)) -- returns-2
+    (λ c κs. search tests)  -- region-ok-requires
+    (λ c κs. search tests)  -- newest-page-requires
+    (λ c κs. search tests)  -- is-at-requires
+    (λ c. search tests)  -- returns
+    (λ c. search tests))  -- returns-2

@@ -8,9 +8,9 @@ unfolding linkedOk
 linked-ok-spec =
     tie.close
     (tie.spec
-    (λ c κs. search tests) -- link-ok-requires
-    (λ c κs. search tests) -- home-of-requires
-    (λ c κs. search tests) -- link-mark-requires
-    (λ c κs. search tests) -- cells-ok-requires
-    (λ c. search tests) -- returns
-    (λ c. search tests)) -- returns-2
+    (λ c κs. search tests)  -- link-ok-requires
+    (λ c κs. search tests)  -- home-of-requires
+    (λ c κs. search tests)  -- link-mark-requires
+    (λ c κs. search tests)  -- cells-ok-requires
+    (λ c. search tests)  -- returns
+    (λ c. search tests))  -- returns-2

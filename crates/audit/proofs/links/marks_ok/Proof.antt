@@ -8,12 +8,12 @@ unfolding marksOk
 marks-ok-spec =
     tie.close
     (tie.spec
-    (λ c κs. search tests) -- link-mark-requires
-    (λ c κs. search tests) -- link-mark-requires-2
-    (λ c κs. search tests) -- link-mark-requires-3
-    (λ c κs. search tests) -- link-mark-requires-4
-    (λ c. search tests) -- mul-mark
-    (λ c. search tests) -- add-mark
-    (λ c κs. search tests) -- mark-requires
-    (λ c κs. search tests) -- together-ok-requires
-    (λ c. search tests)) -- returns
+    (λ c κs. search tests)  -- link-mark-requires
+    (λ c κs. search tests)  -- link-mark-requires-2
+    (λ c κs. search tests)  -- link-mark-requires-3
+    (λ c κs. search tests)  -- link-mark-requires-4
+    (λ c. search tests)  -- mul-mark
+    (λ c. search tests)  -- add-mark
+    (λ c κs. search tests)  -- mark-requires
+    (λ c κs. search tests)  -- together-ok-requires
+    (λ c. search tests))  -- returns

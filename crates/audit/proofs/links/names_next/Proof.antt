@@ -8,7 +8,7 @@ unfolding namesNext
 names-next-spec =
     tie.close
     (tie.spec
-    (λ c κs. search tests) -- has-next-requires
-    (λ c κs. search tests) -- next-page-requires
-    (λ c. search tests) -- returns
-    (λ c. search tests)) -- returns-2
+    (λ c κs. search tests)  -- has-next-requires
+    (λ c κs. search tests)  -- next-page-requires
+    (λ c. search tests)  -- returns
+    (λ c. search tests))  -- returns-2

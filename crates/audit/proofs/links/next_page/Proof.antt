@@ -6,6 +6,6 @@ pub next-page-spec : {M : Type 1} → statement M
 next-page-spec =
     tie.close
     (tie.spec
-    (λ c κs. search tests) -- link-requires
-    (λ c κs. search tests) -- next-page-requires
-    (λ c. search tests)) -- returns
+    (λ c κs. search tests)  -- link-requires
+    (λ c κs. search tests)  -- next-page-requires
+    (λ c. search tests))  -- returns

@@ -17,11 +17,11 @@ page-before-spec =
     (tie.spec
     Inv-loop
     μ-loop
-    (λ c. search scans) -- add-end
-    (λ c. search scans) -- loop-holds
-    (λ c κs. search scans) -- names-next-requires
-    (λ c. search scans) -- returns
-    (λ c. search scans) -- add-p
-    (λ c. search scans) -- loop-less
-    (λ c. search scans) -- loop-again
-    (λ c. search scans)) -- returns-2
+    (λ c. search scans)  -- add-end
+    (λ c. search scans)  -- loop-holds
+    (λ c κs. search scans)  -- names-next-requires
+    (λ c. search scans)  -- returns
+    (λ c. search scans)  -- add-p
+    (λ c. search scans)  -- loop-less
+    (λ c. search scans)  -- loop-again
+    (λ c. search scans))  -- returns-2

@@ -6,9 +6,9 @@ pub page-ok-spec : {M : Type 1} → statement M
 page-ok-spec =
     tie.close
     (tie.spec
-    (λ c κs. search link-cases) -- link-requires
-    (λ c κs. search link-cases) -- all-blank-requires
-    (λ c κs. search link-cases) -- unpack-heap-requires
-    (λ c κs. search link-cases) -- held-ok-requires
-    (λ c. search link-cases) -- returns
-    (λ c. search link-cases)) -- returns-2
+    (λ c κs. search link-cases)  -- link-requires
+    (λ c κs. search link-cases)  -- all-blank-requires
+    (λ c κs. search link-cases)  -- unpack-heap-requires
+    (λ c κs. search link-cases)  -- held-ok-requires
+    (λ c. search link-cases)  -- returns
+    (λ c. search link-cases))  -- returns-2

@@ -8,9 +8,9 @@ unfolding spanOk
 span-ok-spec =
     tie.close
     (tie.spec
-    (λ c κs. search tests) -- link-mark-requires
-    (λ c κs. search tests) -- link-mark-requires-2
-    (λ c κs. search tests) -- gone-ok-requires
-    (λ c. search tests) -- returns
-    (λ c. search tests) -- returns-2
-    (λ c. search tests)) -- returns-3
+    (λ c κs. search tests)  -- link-mark-requires
+    (λ c κs. search tests)  -- link-mark-requires-2
+    (λ c κs. search tests)  -- gone-ok-requires
+    (λ c. search tests)  -- returns
+    (λ c. search tests)  -- returns-2
+    (λ c. search tests))  -- returns-3

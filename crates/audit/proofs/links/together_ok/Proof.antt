@@ -8,6 +8,6 @@ unfolding togetherOk
 together-ok-spec =
     tie.close
     (tie.spec
-    (λ c. search tests) -- returns
-    (λ c. search tests) -- returns-2
-    (λ c. search tests)) -- returns-3
+    (λ c. search tests)  -- returns
+    (λ c. search tests)  -- returns-2
+    (λ c. search tests))  -- returns-3

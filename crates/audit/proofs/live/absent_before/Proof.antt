@@ -8,7 +8,7 @@ unfolding absentBefore
 absent-before-spec =
     tie.close
     (tie.spec
-    (λ c κs. search tests) -- seen-before-requires
-    (λ c. search tests) -- returns
-    (λ c. search tests) -- returns-2
-    (λ c. search tests)) -- returns-3
+    (λ c κs. search tests)  -- seen-before-requires
+    (λ c. search tests)  -- returns
+    (λ c. search tests)  -- returns-2
+    (λ c. search tests))  -- returns-3

@@ -8,6 +8,6 @@ unfolding addressIn
 address-in-spec =
     tie.close
     (tie.spec
-    (λ c κs. search tests) -- page-in-requires
-    (λ c. search tests) -- returns
-    (λ c. search tests)) -- returns-2
+    (λ c κs. search tests)  -- page-in-requires
+    (λ c. search tests)  -- returns
+    (λ c. search tests))  -- returns-2

@@ -8,6 +8,6 @@ unfolding isVariable
 is-variable-spec =
     tie.close
     (tie.spec
-    (λ c κs. search tests) -- tag-at-requires
-    (λ c. search tests) -- returns
-    (λ c. search tests)) -- returns-2
+    (λ c κs. search tests)  -- tag-at-requires
+    (λ c. search tests)  -- returns
+    (λ c. search tests))  -- returns-2

@@ -8,11 +8,11 @@ unfolding namedSince
 named-since-spec =
     tie.close
     (tie.spec
-    (λ c. search tests) -- cast-a
-    (λ c κs. search tests) -- of-stamp-requires
-    (λ c κs. search tests) -- starts-requires
-    (λ c κs. search tests) -- mark-requires
-    (λ c. search tests) -- cast-result
-    (λ c. search tests) -- returns
-    (λ c. search tests) -- returns-2
-    (λ c. search tests)) -- returns-3
+    (λ c. search tests)  -- cast-a
+    (λ c κs. search tests)  -- of-stamp-requires
+    (λ c κs. search tests)  -- starts-requires
+    (λ c κs. search tests)  -- mark-requires
+    (λ c. search tests)  -- cast-result
+    (λ c. search tests)  -- returns
+    (λ c. search tests)  -- returns-2
+    (λ c. search tests))  -- returns-3

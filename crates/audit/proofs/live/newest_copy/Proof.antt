@@ -8,6 +8,6 @@ unfolding newestCopy
 newest-copy-spec =
     tie.close
     (tie.spec
-    (λ c κs. search tests) -- link-mark-requires
-    (λ c. search tests) -- returns
-    (λ c. search tests)) -- returns-2
+    (λ c κs. search tests)  -- link-mark-requires
+    (λ c. search tests)  -- returns
+    (λ c. search tests))  -- returns-2

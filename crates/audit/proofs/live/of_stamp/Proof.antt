@@ -8,6 +8,6 @@ unfolding ofStamp
 of-stamp-spec =
     tie.close
     (tie.spec
-    (λ c κs. search tests) -- link-requires
-    (λ c. search tests) -- add-result
-    (λ c. search tests)) -- returns
+    (λ c κs. search tests)  -- link-requires
+    (λ c. search tests)  -- add-result
+    (λ c. search tests))  -- returns

@@ -8,10 +8,10 @@ unfolding orderOk
 order-ok-spec =
     tie.close
     (tie.spec
-    (λ c. search tests) -- cast-is-variable
-    (λ c κs. search tests) -- is-variable-requires
-    (λ c κs. search tests) -- younger-than-requires
-    (λ c κs. search tests) -- absent-before-requires
-    (λ c. search tests) -- returns
-    (λ c. search tests) -- returns-2
-    (λ c. search tests)) -- returns-3
+    (λ c. search tests)  -- cast-is-variable
+    (λ c κs. search tests)  -- is-variable-requires
+    (λ c κs. search tests)  -- younger-than-requires
+    (λ c κs. search tests)  -- absent-before-requires
+    (λ c. search tests)  -- returns
+    (λ c. search tests)  -- returns-2
+    (λ c. search tests))  -- returns-3

@@ -8,6 +8,6 @@ unfolding pageIn
 page-in-spec =
     tie.close
     (tie.spec
-    (λ c. search tests) -- add-result
-    (λ c. search tests) -- returns
-    (λ c. search tests)) -- returns-2
+    (λ c. search tests)  -- add-result
+    (λ c. search tests)  -- returns
+    (λ c. search tests))  -- returns-2

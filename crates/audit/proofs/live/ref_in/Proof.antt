@@ -8,7 +8,7 @@ unfolding refIn
 ref-in-spec =
     tie.close
     (tie.spec
-    (λ c κs. search tests) -- stamp-in-requires
-    (λ c κs. search tests) -- address-in-requires
-    (λ c. search tests) -- returns
-    (λ c. search tests)) -- returns-2
+    (λ c κs. search tests)  -- stamp-in-requires
+    (λ c κs. search tests)  -- address-in-requires
+    (λ c. search tests)  -- returns
+    (λ c. search tests))  -- returns-2

@@ -8,8 +8,8 @@ unfolding refOk
 ref-ok-spec =
     tie.close
     (tie.spec
-    (λ c κs. search tests) -- ref-in-requires
-    (λ c κs. search tests) -- named-since-requires
-    (λ c κs. search tests) -- absent-before-requires
-    (λ c. search tests) -- returns
-    (λ c. search tests)) -- returns-2
+    (λ c κs. search tests)  -- ref-in-requires
+    (λ c κs. search tests)  -- named-since-requires
+    (λ c κs. search tests)  -- absent-before-requires
+    (λ c. search tests)  -- returns
+    (λ c. search tests))  -- returns-2

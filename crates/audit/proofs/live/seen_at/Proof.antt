@@ -8,11 +8,11 @@ unfolding seenAt
 seen-at-spec =
     tie.close
     (tie.spec
-    (λ c κs. search tests) -- of-stamp-requires
-    (λ c κs. search tests) -- since-at-requires
-    (λ c. search tests) -- cast-if2
-    (λ c κs. search tests) -- newest-copy-requires
-    (λ c. search tests) -- returns
-    (λ c. search tests) -- returns-2
-    (λ c. search tests) -- returns-3
-    (λ c. search tests)) -- returns-4
+    (λ c κs. search tests)  -- of-stamp-requires
+    (λ c κs. search tests)  -- since-at-requires
+    (λ c. search tests)  -- cast-if2
+    (λ c κs. search tests)  -- newest-copy-requires
+    (λ c. search tests)  -- returns
+    (λ c. search tests)  -- returns-2
+    (λ c. search tests)  -- returns-3
+    (λ c. search tests))  -- returns-4

@@ -19,11 +19,11 @@ seen-before-spec =
     (tie.spec
     Inv-loop
     μ-loop
-    (λ c. search finds) -- add-end
-    (λ c. search finds) -- loop-holds
-    (λ c κs. search finds) -- seen-at-requires
-    (λ c. search finds) -- returns
-    (λ c. search finds) -- add-p
-    (λ c. search finds) -- loop-less
-    (λ c. search finds) -- loop-again
-    (λ c. search finds)) -- returns-2
+    (λ c. search finds)  -- add-end
+    (λ c. search finds)  -- loop-holds
+    (λ c κs. search finds)  -- seen-at-requires
+    (λ c. search finds)  -- returns
+    (λ c. search finds)  -- add-p
+    (λ c. search finds)  -- loop-less
+    (λ c. search finds)  -- loop-again
+    (λ c. search finds))  -- returns-2

@@ -8,5 +8,5 @@ unfolding tagAt
 tag-at-spec =
     tie.close
     (tie.spec
-    (λ c κs. search tests) -- word-requires
-    (λ c. search tests)) -- returns
+    (λ c κs. search tests)  -- word-requires
+    (λ c. search tests))  -- returns

@@ -8,6 +8,6 @@ unfolding youngerThan
 younger-than-spec =
     tie.close
     (tie.spec
-    (λ c. search tests) -- cast-result
-    (λ c. search tests) -- returns
-    (λ c. search tests)) -- returns-2
+    (λ c. search tests)  -- cast-result
+    (λ c. search tests)  -- returns
+    (λ c. search tests))  -- returns-2

@@ -17,12 +17,12 @@ all-rows-ok-spec =
     (tie.spec
     Inv-loop
     μ-loop
-    (λ c. search holds) -- add-end
-    (λ c. search holds) -- loop-holds
-    (λ c. search holds) -- cast-row-ok
-    (λ c κs. search holds) -- row-ok-requires
-    (λ c. search holds) -- add-c
-    (λ c. search holds) -- loop-less
-    (λ c. search holds) -- loop-again
-    (λ c. search holds) -- returns
-    (λ c. search holds)) -- returns-2
+    (λ c. search holds)  -- add-end
+    (λ c. search holds)  -- loop-holds
+    (λ c. search holds)  -- cast-row-ok
+    (λ c κs. search holds)  -- row-ok-requires
+    (λ c. search holds)  -- add-c
+    (λ c. search holds)  -- loop-less
+    (λ c. search holds)  -- loop-again
+    (λ c. search holds)  -- returns
+    (λ c. search holds))  -- returns-2

@@ -8,6 +8,6 @@ unfolding countOk
 count-ok-spec =
     tie.close
     (tie.spec
-    (λ c. search tests) -- add-result
-    (λ c. search tests) -- returns
-    (λ c. search tests)) -- returns-2
+    (λ c. search tests)  -- add-result
+    (λ c. search tests)  -- returns
+    (λ c. search tests))  -- returns-2

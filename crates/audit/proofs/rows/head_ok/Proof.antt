@@ -8,9 +8,9 @@ unfolding headOk
 head-ok-spec =
     tie.close
     (tie.spec
-    (λ c κs. search tests) -- word-requires
-    (λ c κs. search tests) -- stamp-ok-requires
-    (λ c κs. search tests) -- word-requires-2
-    (λ c κs. search tests) -- count-ok-requires
-    (λ c. search tests) -- returns
-    (λ c. search tests)) -- returns-2
+    (λ c κs. search tests)  -- word-requires
+    (λ c κs. search tests)  -- stamp-ok-requires
+    (λ c κs. search tests)  -- word-requires-2
+    (λ c κs. search tests)  -- count-ok-requires
+    (λ c. search tests)  -- returns
+    (λ c. search tests))  -- returns-2

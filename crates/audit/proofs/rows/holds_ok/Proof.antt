@@ -6,8 +6,8 @@ pub holds-ok-spec : {M : Type 1} → statement M
 holds-ok-spec =
     tie.close
     (tie.spec
-    (λ c. search row-cases) -- enum-known-x
-    (λ c κs. search row-cases) -- register-ok-requires
-    (λ c. search row-cases) -- enum-told
-    (λ c. search row-cases) -- returns
-    (λ c. search row-cases)) -- returns-2
+    (λ c. search row-cases)  -- enum-known-x
+    (λ c κs. search row-cases)  -- register-ok-requires
+    (λ c. search row-cases)  -- enum-told
+    (λ c. search row-cases)  -- returns
+    (λ c. search row-cases))  -- returns-2

@@ -19,10 +19,10 @@ row-ok-spec =
     (tie.spec
     Inv-loop
     μ-loop
-    (λ c. search holds) -- loop-holds
-    (λ c κs. search holds) -- row-word-ok-requires
-    (λ c. search holds) -- add-r
-    (λ c. search holds) -- loop-less
-    (λ c. search holds) -- loop-again
-    (λ c. search holds) -- returns
-    (λ c. search holds)) -- returns-2
+    (λ c. search holds)  -- loop-holds
+    (λ c κs. search holds)  -- row-word-ok-requires
+    (λ c. search holds)  -- add-r
+    (λ c. search holds)  -- loop-less
+    (λ c. search holds)  -- loop-again
+    (λ c. search holds)  -- returns
+    (λ c. search holds))  -- returns-2

@@ -6,7 +6,7 @@ pub row-word-ok-spec : {M : Type 1} → statement M
 row-word-ok-spec =
     tie.close
     (tie.spec
-    (λ c κs. search row-cases) -- register-requires
-    (λ c κs. search row-cases) -- unpack-register-requires
-    (λ c κs. search row-cases) -- holds-ok-requires
-    (λ c. search row-cases)) -- returns
+    (λ c κs. search row-cases)  -- register-requires
+    (λ c κs. search row-cases)  -- unpack-register-requires
+    (λ c κs. search row-cases)  -- holds-ok-requires
+    (λ c. search row-cases))  -- returns

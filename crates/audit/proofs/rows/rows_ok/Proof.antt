@@ -8,11 +8,11 @@ unfolding rowsOk
 rows-ok-spec =
     tie.close
     (tie.spec
-    (λ c κs. search tests) -- all-rows-ok-requires
-    (λ c. search tests) -- mul-zero-words
-    (λ c. search tests) -- add-zero-words
-    (λ c. search tests) -- mul-zero-words-2
-    (λ c. search tests) -- add-zero-words-2
-    (λ c κs. search tests) -- zero-words-requires
-    (λ c. search tests) -- returns
-    (λ c. search tests)) -- returns-2
+    (λ c κs. search tests)  -- all-rows-ok-requires
+    (λ c. search tests)  -- mul-zero-words
+    (λ c. search tests)  -- add-zero-words
+    (λ c. search tests)  -- mul-zero-words-2
+    (λ c. search tests)  -- add-zero-words-2
+    (λ c κs. search tests)  -- zero-words-requires
+    (λ c. search tests)  -- returns
+    (λ c. search tests))  -- returns-2

@@ -18,10 +18,10 @@ zero-marks-spec =
     (tie.spec
     Inv-loop
     μ-loop
-    (λ c. search zeros) -- loop-holds
-    (λ c κs. search zeros) -- mark-requires
-    (λ c. search zeros) -- add-i
-    (λ c. search zeros) -- loop-less
-    (λ c. search zeros) -- loop-again
-    (λ c. search zeros) -- returns
-    (λ c. search zeros)) -- returns-2
+    (λ c. search zeros)  -- loop-holds
+    (λ c κs. search zeros)  -- mark-requires
+    (λ c. search zeros)  -- add-i
+    (λ c. search zeros)  -- loop-less
+    (λ c. search zeros)  -- loop-again
+    (λ c. search zeros)  -- returns
+    (λ c. search zeros))  -- returns-2

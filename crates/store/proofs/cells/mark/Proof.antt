@@ -6,6 +6,6 @@ pub mark-spec : {M : Type 1} → statement M
 mark-spec =
     tie.close
     (tie.spec
-    (λ c. search laws) -- shared-slice-read-result
-    (λ c. search laws) -- returns
-    (λ c. search laws)) -- returns-2
+    (λ c. search laws)  -- shared-slice-read-result
+    (λ c. search laws)  -- returns
+    (λ c. search laws))  -- returns-2

@@ -6,8 +6,8 @@ pub put-spec : {M : Type 1} → statement M
 put-spec =
     tie.close
     (tie.spec
-    (λ c. search laws) -- mul-words
-    (λ c. search laws) -- slice-write-words
-    (λ c. search laws) -- same-length
-    (λ c. search laws) -- returns
-    (λ c. search laws)) -- returns-2
+    (λ c. search laws)  -- mul-words
+    (λ c. search laws)  -- slice-write-words
+    (λ c. search laws)  -- same-length
+    (λ c. search laws)  -- returns
+    (λ c. search laws))  -- returns-2

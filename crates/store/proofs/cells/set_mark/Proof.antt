@@ -6,7 +6,7 @@ pub set-mark-spec : {M : Type 1} → statement M
 set-mark-spec =
     tie.close
     (tie.spec
-    (λ c. search laws) -- slice-write-marks
-    (λ c. search laws) -- same-length
-    (λ c. search laws) -- returns
-    (λ c. search laws)) -- returns-2
+    (λ c. search laws)  -- slice-write-marks
+    (λ c. search laws)  -- same-length
+    (λ c. search laws)  -- returns
+    (λ c. search laws))  -- returns-2

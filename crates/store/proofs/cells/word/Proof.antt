@@ -6,7 +6,7 @@ pub word-spec : {M : Type 1} → statement M
 word-spec =
     tie.close
     (tie.spec
-    (λ c. search laws) -- mul-result
-    (λ c. search laws) -- shared-slice-read-result
-    (λ c. search laws) -- returns
-    (λ c. search laws)) -- returns-2
+    (λ c. search laws)  -- mul-result
+    (λ c. search laws)  -- shared-slice-read-result
+    (λ c. search laws)  -- returns
+    (λ c. search laws))  -- returns-2

@@ -8,8 +8,8 @@ unfolding fillAt
 fill-at-spec =
     tie.close
     (tie.spec
-    (λ c κs. search stores) -- put-requires
-    (λ c κs. search stores) -- set-mark-requires
-    (λ c. search stores) -- same-length
-    (λ c. search stores) -- same-length-2
-    (λ c. search stores)) -- returns
+    (λ c κs. search stores)  -- put-requires
+    (λ c κs. search stores)  -- set-mark-requires
+    (λ c. search stores)  -- same-length
+    (λ c. search stores)  -- same-length-2
+    (λ c. search stores))  -- returns

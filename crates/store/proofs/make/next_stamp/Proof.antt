@@ -8,6 +8,6 @@ unfolding nextStamp
 next-stamp-spec =
     tie.close
     (tie.spec
-    (λ c κs. search laws) -- word-requires
-    (λ c. search laws) -- cast-result
-    (λ c. search laws)) -- returns
+    (λ c κs. search laws)  -- word-requires
+    (λ c. search laws)  -- cast-result
+    (λ c. search laws))  -- returns

@@ -8,9 +8,9 @@ unfolding regionNoted
 note-region-spec =
     tie.close
     (tie.spec
-    (λ c κs. search rows) -- pack-register-requires
-    (λ c κs. search rows) -- set-register-requires
-    (λ c. search rows) -- add-put
-    (λ c κs. search rows) -- put-requires
-    (λ c. search rows) -- same-length
-    (λ c. search rows)) -- returns
+    (λ c κs. search rows)  -- pack-register-requires
+    (λ c κs. search rows)  -- set-register-requires
+    (λ c. search rows)  -- add-put
+    (λ c κs. search rows)  -- put-requires
+    (λ c. search rows)  -- same-length
+    (λ c. search rows))  -- returns

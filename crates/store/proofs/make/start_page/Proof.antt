@@ -8,9 +8,9 @@ unfolding pageStarted
 start-page-spec =
     tie.close
     (tie.spec
-    (λ c κs. search stores) -- pack-link-requires
-    (λ c. search stores) -- mul-fill-at
-    (λ c κs. search stores) -- fill-at-requires
-    (λ c. search stores) -- same-length
-    (λ c. search stores) -- same-length-2
-    (λ c. search stores)) -- returns
+    (λ c κs. search stores)  -- pack-link-requires
+    (λ c. search stores)  -- mul-fill-at
+    (λ c κs. search stores)  -- fill-at-requires
+    (λ c. search stores)  -- same-length
+    (λ c. search stores)  -- same-length-2
+    (λ c. search stores))  -- returns

@@ -19,10 +19,10 @@ all-live-spec =
     (tie.spec
     Inv-loop
     μ-loop
-    (λ c. search ups) -- loop-holds
-    (λ c κs. search ups) -- is-live-requires
-    (λ c. search ups) -- add-i
-    (λ c. search ups) -- loop-less
-    (λ c. search ups) -- loop-again
-    (λ c. search ups) -- returns
-    (λ c. search ups)) -- returns-2
+    (λ c. search ups)  -- loop-holds
+    (λ c κs. search ups)  -- is-live-requires
+    (λ c. search ups)  -- add-i
+    (λ c. search ups)  -- loop-less
+    (λ c. search ups)  -- loop-again
+    (λ c. search ups)  -- returns
+    (λ c. search ups))  -- returns-2

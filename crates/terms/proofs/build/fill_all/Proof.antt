@@ -19,17 +19,17 @@ fill-all-spec =
     (tie.spec
     Inv-loop
     μ-loop
-    (λ c. search filling) -- mul-start
-    (λ c. search filling) -- add-start
-    (λ c. search filling) -- add-start-2
-    (λ c. (search filling, search filling, search filling)) -- loop-holds
-    (λ c. search filling) -- add-fill-at
-    (λ c. search filling) -- mul-fill-at
-    (λ c. search filling) -- shared-slice-read-fill-at
-    (λ c κs. search filling) -- fill-at-requires
-    (λ c. search filling) -- add-i
-    (λ c. search filling) -- loop-less
-    (λ c. (search filling, search filling, search filling)) -- loop-again
-    (λ c. search filling) -- same-length
-    (λ c. search filling) -- same-length-2
-    (λ c. search filling)) -- returns
+    (λ c. search filling)  -- mul-start
+    (λ c. search filling)  -- add-start
+    (λ c. search filling)  -- add-start-2
+    (λ c. (search filling, search filling, search filling))  -- loop-holds
+    (λ c. search filling)  -- add-fill-at
+    (λ c. search filling)  -- mul-fill-at
+    (λ c. search filling)  -- shared-slice-read-fill-at
+    (λ c κs. search filling)  -- fill-at-requires
+    (λ c. search filling)  -- add-i
+    (λ c. search filling)  -- loop-less
+    (λ c. (search filling, search filling, search filling))  -- loop-again
+    (λ c. search filling)  -- same-length
+    (λ c. search filling)  -- same-length-2
+    (λ c. search filling))  -- returns

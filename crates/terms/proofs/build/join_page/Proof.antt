@@ -8,11 +8,11 @@ unfolding pageJoined
 join-page-spec =
     tie.close
     (tie.spec
-    (λ c κs. search filling) -- start-page-requires
-    (λ c. search filling) -- cast-t14
-    (λ c κs. search filling) -- pack-link-requires
-    (λ c. search filling) -- mul-put
-    (λ c κs. search filling) -- put-requires
-    (λ c. search filling) -- same-length
-    (λ c. search filling) -- same-length-2
-    (λ c. search filling)) -- returns
+    (λ c κs. search filling)  -- start-page-requires
+    (λ c. search filling)  -- cast-t14
+    (λ c κs. search filling)  -- pack-link-requires
+    (λ c. search filling)  -- mul-put
+    (λ c κs. search filling)  -- put-requires
+    (λ c. search filling)  -- same-length
+    (λ c. search filling)  -- same-length-2
+    (λ c. search filling))  -- returns

@@ -8,27 +8,27 @@ unfolding placeOf placed
 place-spec =
     tie.close
     (tie.spec
-    (λ c κs. search placing) -- fill-requires
-    (λ c. search placing) -- add-whole
-    (λ c. search placing) -- cast-fill-all
-    (λ c κs. search placing) -- fill-all-requires
-    (λ c. search placing) -- mul-t23
-    (λ c. search placing) -- add-t24
-    (λ c. search placing) -- add-t25
-    (λ c. search placing) -- same-length
-    (λ c. search placing) -- same-length-2
-    (λ c. (search placing, search placing)) -- returns
-    (λ c κs. search placing) -- lowest-free-requires
-    (λ c. search placing) -- enum-known-q
-    (λ c. search placing) -- enum-told
-    (λ c. search placing) -- same-length-3
-    (λ c. (search placing, search placing)) -- returns-2
-    (λ c. search placing) -- cast-join-page
-    (λ c κs. search placing) -- join-page-requires
-    (λ c. search placing) -- cast-fill-all-2
-    (λ c κs. search placing) -- fill-all-requires-2
-    (λ c. search placing) -- mul-t14
-    (λ c. search placing) -- add-t39
-    (λ c. search placing) -- same-length-4
-    (λ c. search placing) -- same-length-5
-    (λ c. (search placing, search placing))) -- returns-3
+    (λ c κs. search placing)  -- fill-requires
+    (λ c. search placing)  -- add-whole
+    (λ c. search placing)  -- cast-fill-all
+    (λ c κs. search placing)  -- fill-all-requires
+    (λ c. search placing)  -- mul-t23
+    (λ c. search placing)  -- add-t24
+    (λ c. search placing)  -- add-t25
+    (λ c. search placing)  -- same-length
+    (λ c. search placing)  -- same-length-2
+    (λ c. (search placing, search placing))  -- returns
+    (λ c κs. search placing)  -- lowest-free-requires
+    (λ c. search placing)  -- enum-known-q
+    (λ c. search placing)  -- enum-told
+    (λ c. search placing)  -- same-length-3
+    (λ c. (search placing, search placing))  -- returns-2
+    (λ c. search placing)  -- cast-join-page
+    (λ c κs. search placing)  -- join-page-requires
+    (λ c. search placing)  -- cast-fill-all-2
+    (λ c κs. search placing)  -- fill-all-requires-2
+    (λ c. search placing)  -- mul-t14
+    (λ c. search placing)  -- add-t39
+    (λ c. search placing)  -- same-length-4
+    (λ c. search placing)  -- same-length-5
+    (λ c. (search placing, search placing)))  -- returns-3

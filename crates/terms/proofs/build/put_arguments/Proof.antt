@@ -18,12 +18,12 @@ put-arguments-spec =
     (tie.spec
     Inv-loop
     μ-loop
-    (λ c. search puttings) -- loop-holds
-    (λ c κs. search puttings) -- argument-requires
-    (λ c κs. search puttings) -- put-requires
-    (λ c. search puttings) -- add-i
-    (λ c. search puttings) -- add-k
-    (λ c. search puttings) -- loop-less
-    (λ c. search puttings) -- loop-again
-    (λ c. search puttings) -- same-length
-    (λ c. search puttings)) -- returns
+    (λ c. search puttings)  -- loop-holds
+    (λ c κs. search puttings)  -- argument-requires
+    (λ c κs. search puttings)  -- put-requires
+    (λ c. search puttings)  -- add-i
+    (λ c. search puttings)  -- add-k
+    (λ c. search puttings)  -- loop-less
+    (λ c. search puttings)  -- loop-again
+    (λ c. search puttings)  -- same-length
+    (λ c. search puttings))  -- returns
