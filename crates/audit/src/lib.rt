@@ -1,5 +1,7 @@
 // Is the lent memory a sound session? One test over everything lent, in the order of document 01, 'Sound machine'.
 
+#![tactic(auto)]
+
 ghost use Rattle.std.specs.Prelude.{◌≡◌};
 ghost use Rattle.laws.specs.Loops.{all_of};
 ghost use Rattle.audit.specs.Links.{page_ok};
@@ -13,7 +15,7 @@ use store::registers::copy_number;
 
 // What is known of a held page when its cells are looked at: the stamp of its region, the newest copy that has the region, and the newest copy that may
 // have filled a word of the page.
-#[derive(Drop)]
+#[derive(Clone, Copy)]
 pub struct Home {
     pub stamp: u32,
     pub newest: u8,

@@ -1,7 +1,9 @@
 // Laws that know nothing of the machine: lists, tests, searches, and how code is proved. They stand in specs/ and proofs/.
 
+#![tactic(auto)]
+
 // Where a search ends.
-#[derive(Drop)]
+#[derive(Clone, Copy)]
 pub enum Sought {
     At(usize),
     Nowhere,

@@ -1,7 +1,9 @@
 // The lent memory: cells, pages, regions, copies. Reads and writes are total: a read past the end is 0, a write past the end does nothing.
 
+#![tactic(auto)]
+
 // The pages that an undo strikes: those of regions with this mark on their links, or those of this stamp.
-#[derive(Drop)]
+#[derive(Clone, Copy)]
 pub enum Which {
     Marked(u8),
     Stamped(u32),

@@ -18,7 +18,7 @@ use words::registers::pack_register;
 use words::{Answer, Cell, Held, Link, Ref, Register};
 
 // Where a term of a region goes: the region's newest page. The region may be gone from the present copy.
-#[derive(Drop)]
+#[derive(Clone, Copy)]
 pub enum Home {
     Gone,
     Newest { page: u32, stamp: u32 },

@@ -12,7 +12,7 @@ use words::registers::{pack_register, unpack_register};
 use words::{Answer, Cell, Held, Ref, Register, Word};
 
 // What a register that must hold a term holds: a term of a region that is in the present copy, or nothing of the kind.
-#[derive(Drop)]
+#[derive(Clone, Copy)]
 pub enum Operand {
     Missing,
     Live(Ref),

@@ -15,7 +15,7 @@ use words::{Answer, Cell, Ref};
 
 // What a pair comes to: a dead reference, terms that differ, equal terms, a variable to bind to a cell, or the arguments of two structures
 // (the addresses of their heads, and how many arguments each has).
-#[derive(Drop)]
+#[derive(Clone, Copy)]
 pub enum Taken {
     Died,
     Differ,
@@ -25,14 +25,14 @@ pub enum Taken {
 }
 
 // The terms in two registers, each of a region that is in the present copy.
-#[derive(Drop)]
+#[derive(Clone, Copy)]
 pub enum Operands {
     Missing,
     Both(Ref, Ref),
 }
 
 // How far a unification is: its status, how many entries of the trail it has used, how many pairs it may still take.
-#[derive(Drop)]
+#[derive(Clone, Copy)]
 pub struct Progress {
     pub status: u8,
     pub bound: u16,

@@ -1,5 +1,7 @@
 // The words of document 01. These types are also the data of the machine's definitions: a contract says `r ≡ decode w`, with no translation.
 
+#![tactic(auto)]
+
 pub mod answers;
 pub mod heap;
 pub mod integers;
@@ -7,14 +9,14 @@ pub mod registers;
 pub mod steps;
 
 // A cell of a region: the region's stamp, and the cell's address, page x 16 + word.
-#[derive(Drop)]
+#[derive(Clone, Copy)]
 pub struct Ref {
     pub stamp: u32,
     pub address: u16,
 }
 
 // A filled word of a page, words 1 to 15: tags 1 to 5.
-#[derive(Drop)]
+#[derive(Clone, Copy)]
 pub enum Cell {
     Unbound,
     Bound(Ref),
@@ -24,14 +26,14 @@ pub enum Cell {
 }
 
 // Word 0 of a held page, tag 6: the region's last page, or one with a next page.
-#[derive(Drop)]
+#[derive(Clone, Copy)]
 pub enum Link {
     Last { stamp: u32 },
     Joined { stamp: u32, next: u16 },
 }
 
 // What a heap word says: tags 0 to 6, or no word of document 01.
-#[derive(Drop)]
+#[derive(Clone, Copy)]
 pub enum Word {
     Empty,
     Filled(Cell),
@@ -40,7 +42,7 @@ pub enum Word {
 }
 
 // A register: tags 0, 7 and 8.
-#[derive(Drop)]
+#[derive(Clone, Copy)]
 pub enum Register {
     Empty,
     Region(u32),
@@ -48,14 +50,14 @@ pub enum Register {
 }
 
 // What a register word says: a register, or no word of document 01.
-#[derive(Drop)]
+#[derive(Clone, Copy)]
 pub enum Held {
     Holds(Register),
     Broken,
 }
 
 // A step, ops 1 to 11 in their order. d, a and b are registers.
-#[derive(Drop)]
+#[derive(Clone, Copy)]
 pub enum Step {
     Refused,
     MakeRegion {
@@ -101,7 +103,7 @@ pub enum Step {
 }
 
 // What a step answers.
-#[derive(Drop)]
+#[derive(Clone, Copy)]
 pub struct Answer {
     pub status: u8,
     pub kind: u8,
