@@ -7,8 +7,8 @@ WORKED := crates/machine/specs/Worked.antt
 
 # The lines shown are the very bytes that crates/machine/proofs/Worked.antt proves the worked file to print.
 demo:
-	@log=$$(rt check machine 2>&1) || { printf '%s\n' "$$log"; exit 1; }
-	@sed '1,/^workedText =/d' $(WORKED) | grep -o '[0-9][0-9]*' | awk '{ printf "%c", $$1 }'
+	@log=$$(cd crates/machine && rt check 2>&1) || { printf '%s\n' "$$log"; exit 1; }
+	@sed '1,/^worked_text =/d' $(WORKED) | grep -o '[0-9][0-9]*' | awk '{ printf "%c", $$1 }'
 
 test:
 	@bash .ci/run

@@ -2,24 +2,22 @@
 use Prim.Native.Nat.{ℕ, suc, ◌+◌, ◌-◌, ◌*◌, ◌<◌, ◌≤◌}
 use mathlib.Core.Bool.{Bool, true, false}
 use mathlib.Core.List.{List}
-use mathlib.Core.Path.{◌≡◌, refl, sym, ap, ◌∙◌}
+use mathlib.Core.Path.{◌≡◌, ◌∙◌}
 use native.Mathlib.Omega.{arith}
 use lib.IntN.{ℤ}
 use lib.Dec.{eqb}
 use lib.ListN.{get_or}
 use borrow.Author.Rules.{rules}
-use borrow.Author.Tests.{lt-ltb, le-ltb, eq-eqb, ne_eqb}
+use borrow.Author.Tests.{ne_eqb}
 use Rattle.laws.specs.Pick.{pick}
-use Rattle.laws.specs.Loops.{all_of}
 use Rattle.words.specs.declared.Ref.{Ref}
 use Rattle.words.specs.declared.Cell.{Cell}
 use Rattle.words.specs.declared.Cell.TheVariants.{Unbound, Bound, Int, Head, Argument}
 use Rattle.words.specs.declared.Link.{Link}
 use Rattle.words.specs.declared.Word.{Word}
-use Rattle.words.specs.declared.Word.TheVariants as Word
 use Rattle.words.specs.Words.{unpack_heap}
 use Rattle.audit.specs.declared.Home.{Home}
-use Rattle.audit.specs.Cells.{blank, more_after, fresh_ok, on_cell, bound_ok, argument_ok, cell_ok, born_ok, filled_ok, rest_ok, cells_ok}
+use Rattle.audit.specs.Cells.{more_after, fresh_ok, on_cell, bound_ok, argument_ok, cell_ok, born_ok, filled_ok, rest_ok, cells_ok}
 
 module _ (first pages : ℕ) (h b u : List ℕ) (n next : ℕ) (home : Home) (r : Bool) where
   -- ---- one cell

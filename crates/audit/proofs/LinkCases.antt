@@ -4,7 +4,6 @@ use mathlib.Core.Bool.{Bool, true, false}
 use mathlib.Core.List.{List}
 use mathlib.Core.Path.{◌≡◌, refl, sym, ap, ◌∙◌}
 use native.Mathlib.Omega.{arith}
-use native.Mathlib.Numerals.{sub-one}
 use lib.Dec.{eqb}
 use lib.ListN.{get_or}
 use borrow.Author.Rules.{rules}
@@ -17,7 +16,6 @@ use Rattle.words.specs.declared.Cell.{Cell}
 use Rattle.words.specs.declared.Link.{Link}
 use Rattle.words.specs.declared.Link.TheVariants.{Last, Joined}
 use Rattle.words.specs.declared.Word.{Word}
-use Rattle.words.specs.declared.Word.TheVariants as Word
 use Rattle.words.specs.Words.{unpack_heap}
 use Rattle.words.specs.Fields.{bits}
 use Rattle.audit.specs.Links.{is_at, has_next, next_page, ends_in, gone_ok, together_ok, last_ok, joined_ok, link_ok, home_of, linked_ok, held_ok, page_ok}

@@ -5,7 +5,6 @@ use mathlib.Core.List.{List}
 use mathlib.Core.Path.{◌≡◌}
 use native.Mathlib.Omega.{arith}
 use borrow.Author.Rules.{rules}
-use lib.ListN.{get_or}
 use Rattle.laws.specs.Loops.{all_of}
 use Rattle.laws.proofs.Turns.{Holding, holding_starts, holding_on, holding_fails, holding_ends}
 use Rattle.laws.proofs.Via.{via_flag, test_yes, test_no}
@@ -13,11 +12,10 @@ use Rattle.words.specs.declared.Ref.{Ref}
 use Rattle.words.specs.declared.Register.{Register}
 use Rattle.words.specs.declared.Register.TheVariants as Reg
 use Rattle.words.specs.declared.Held.{Held}
-use Rattle.words.specs.declared.Held.TheVariants as Held
 use Rattle.words.specs.Words.{unpack_register}
 use Rattle.store.specs.Rows.{register_at}
 use Rattle.audit.specs.Live.{stamp_in, ref_ok}
-use Rattle.audit.specs.Rows.{register_ok, holds_ok, row_word_ok, is_zero, zero_to, stamp_ok, count_ok}
+use Rattle.audit.specs.Rows.{register_ok, holds_ok, row_word_ok, stamp_ok, count_ok}
 
 module _ (first pages : ℕ) (h b u : List ℕ) (n next : ℕ) (r : Bool) (c : ℕ) where
   module _ (x : Register) where

@@ -1,5 +1,5 @@
 -- THE TEST: is what is lent a sound session?
-use Rattle.std.specs.Prelude.{Bool, true, false, List, ℕ, ◌/◌, ◌%◌, eqb, leb, length, get_or}
+use Rattle.std.specs.Prelude.{Bool, false, List, ℕ, ◌/◌, ◌%◌, eqb, leb, length, get_or}
 use Rattle.laws.specs.Pick.{pick}
 use Rattle.laws.specs.Loops.{all_of}
 use Rattle.store.specs.Pages.{slot_count}

@@ -1,12 +1,11 @@
 -- The cells of a held page: whole terms, no gap before the fill's end, marks in order, references that name filled words in every copy.
-use Rattle.std.specs.Prelude.{Bool, true, false, List, ℕ, zero, suc, ◌+◌, ◌-◌, ◌^◌, eqb, ltb, leb, get_or}
+use Rattle.std.specs.Prelude.{Bool, false, List, ℕ, zero, suc, ◌+◌, ◌-◌, eqb, ltb, leb, get_or}
 use Rattle.laws.specs.Pick.{pick}
 use Rattle.laws.specs.Loops.{all_of}
 use Rattle.words.specs.declared.Ref.{Ref}
 use Rattle.words.specs.declared.Cell.{Cell}
 use Rattle.words.specs.declared.Cell.TheVariants.{Unbound, Bound, Int, Head, Argument}
 use Rattle.words.specs.declared.Word.{Word}
-use Rattle.words.specs.declared.Word.TheVariants as Word
 use Rattle.words.specs.Words.{unpack_heap}
 use Rattle.audit.specs.declared.Home.{Home}
 use Rattle.audit.specs.Live.{ref_ok, order_ok}

@@ -7,7 +7,6 @@ use Rattle.laws.specs.Loops.{seek, all_of}
 use Rattle.words.specs.declared.Link.{Link}
 use Rattle.words.specs.declared.Link.TheVariants.{Last, Joined}
 use Rattle.words.specs.declared.Word.{Word}
-use Rattle.words.specs.declared.Word.TheVariants as Word
 use Rattle.words.specs.Fields.{bits}
 use Rattle.words.specs.Words.{unpack_heap}
 use Rattle.store.specs.Pages.{link, newest_page}

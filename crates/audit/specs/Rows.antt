@@ -5,7 +5,6 @@ use Rattle.laws.specs.Loops.{all_of}
 use Rattle.words.specs.declared.Register.{Register}
 use Rattle.words.specs.declared.Register.TheVariants as Reg
 use Rattle.words.specs.declared.Held.{Held}
-use Rattle.words.specs.declared.Held.TheVariants as Held
 use Rattle.words.specs.Words.{unpack_register}
 use Rattle.store.specs.Rows.{register_at}
 use Rattle.audit.specs.Live.{stamp_in, ref_ok}

@@ -15,7 +15,7 @@ use Rattle.laws.proofs.Lists.{each_replicate, each_of, each_at, each_by}
 use Rattle.words.specs.declared.Register.TheVariants as Reg
 use Rattle.words.specs.declared.Step.TheVariants.{PushChoice, Cut, Backtrack}
 use Rattle.words.specs.Answers.{plain}
-use Rattle.machine.specs.Copies.{Limits, Copy, Machine, copies, with_copies, opening, bare, live, shown, slots, in_regions}
+use Rattle.machine.specs.Copies.{Limits, Copy, Machine, copies, with_copies, opening, bare, live, shown, in_regions}
 use Rattle.machine.specs.Run.{exec, refused, cut_to, back_to}
 use Rattle.machine.specs.Sound.{LimitsOk, Sound, CopyOk, RegisterIn, RegisterNames, CopyGrown, PagesApart, NoReturn}
 use Rattle.machine.proofs.Growth.{copy_refl}

@@ -1,8 +1,8 @@
 -- Words that are filled one after another: what the last call did is said of the memory that the call before left.
-use Prim.Native.Nat.{ℕ, ◌*◌, ◌<◌, ◌^◌}
+use Prim.Native.Nat.{ℕ}
 use mathlib.Core.List.{List}
 use mathlib.Core.Option.{none, some}
-use mathlib.Core.Path.{◌≡◌, refl, sym, ap, ◌∙◌}
+use mathlib.Core.Path.{◌≡◌}
 use Rattle.laws.proofs.Rules.{laws}
 use Rattle.words.specs.declared.Word.TheVariants.{Linked}
 use Rattle.words.specs.declared.Link.TheVariants.{Last, Joined}

@@ -1,8 +1,8 @@
 -- The arguments of a structure: loops over the registers from b up to an end, and the words that they gather.
 use Prim.Native.Nat.{ℕ, zero, suc, ◌+◌, ◌-◌, ◌≤◌, ◌<◌}
 use mathlib.Core.Bool.{Bool, true, false}
-use mathlib.Core.List.{List, [], ◌∷◌, ◌++◌, append_assoc, append-nil}
-use mathlib.Core.Path.{◌≡◌, refl, sym, ap, ◌∙◌}
+use mathlib.Core.List.{List, ◌∷◌, ◌++◌, append_assoc, append-nil}
+use mathlib.Core.Path.{◌≡◌, refl, sym, ◌∙◌}
 use native.Mathlib.Omega.{arith}
 use native.Mathlib.Numerals.{add-one}
 use native.Mathlib.Nat.{add-zero, add-sub_cancel_left}
@@ -17,7 +17,6 @@ use Rattle.words.specs.Words.{cell_word, ref_of}
 use Rattle.store.specs.Rows.{present, register_at}
 use Rattle.terms.specs.declared.deref.Operand.{Operand}
 use Rattle.terms.specs.declared.deref.Operand.TheVariants.{Missing, Live}
-use Rattle.terms.specs.Deref.{operand_at}
 use Rattle.terms.specs.Build.{is_live, arguments_live, argument_word, argument_words, arguments_put, structure_words}
 use Rattle.terms.proofs.Building.{steps}
 

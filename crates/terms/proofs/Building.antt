@@ -1,9 +1,9 @@
 -- What each way out of building a term gives. The premises are what a `let .. else`, a test and the calls before it tell.
-use Prim.Native.Nat.{ℕ, ◌+◌, ◌*◌, ◌<◌}
-use mathlib.Core.Bool.{Bool, true, false}
+use Prim.Native.Nat.{ℕ}
+use mathlib.Core.Bool.{Bool}
 use mathlib.Core.List.{List, [], ◌∷◌}
-use mathlib.Core.Logic.{◌⊎◌, inl, inr}
-use mathlib.Core.Path.{◌≡◌, refl, sym, ap, ◌∙◌}
+use mathlib.Core.Logic.{inl, inr}
+use mathlib.Core.Path.{◌≡◌, refl, ap, ◌∙◌}
 use native.Mathlib.Omega.{arith}
 use lib.IntN.{ℤ}
 use mir.Syntax.{w16, w32}
@@ -12,14 +12,12 @@ use mir.Facts.{to_z-of_z}
 use types.Run.{OneOf}
 use denote.Enum.Declared.{tag_of}
 use Rattle.laws.specs.declared.Sought.{Sought}
-use Rattle.laws.specs.declared.Sought.TheVariants.{At, Nowhere}
-use Rattle.laws.specs.Pick.{pick}
+use Rattle.laws.specs.declared.Sought.TheVariants.{At}
 use Rattle.laws.proofs.Pick.{yes, no}
 use Rattle.words.specs.declared.Cell.TheVariants.{Int}
 use Rattle.words.specs.declared.Register.{Register}
 use Rattle.words.specs.declared.Register.TheVariants.{Empty, Region, Term}
 use Rattle.words.specs.declared.Held.{Held}
-use Rattle.words.specs.declared.Held.TheVariants as Held
 use Rattle.words.specs.declared.Answer.{Answer}
 use Rattle.words.specs.Words.{cell_word}
 use Rattle.words.specs.contracts.Register as RegisterType
@@ -30,7 +28,6 @@ use Rattle.store.proofs.Unturned.{with_turned, pick_map, sought_map, fill_all_tu
 use Rattle.store.proofs.Sought.{sought, live_below}
 use Rattle.terms.specs.declared.build.Home.{Home}
 use Rattle.terms.specs.declared.build.Home.TheVariants.{Gone, Newest}
-use Rattle.terms.specs.Deref.{held_at}
 use Rattle.terms.specs.Build.{on_region, on_home, page_joined, placed, put_tables, build_answer, build_tables, build_memory}
 
 -- ---- the region in a register

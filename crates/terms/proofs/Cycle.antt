@@ -4,19 +4,17 @@ use mathlib.Core.List.{List, [], ◌∷◌, ◌++◌}
 use Prim.Native.Nat.{ℕ, zero, suc, ◌+◌, ◌-◌, ◌*◌, ◌/◌, ◌%◌, ◌^◌, ◌<◌, ◌≤◌}
 use native.Mathlib.Omega.{arith}
 use native.Mathlib.Numerals.{sub-one, add-one}
-use lib.Dec.{eqb}
 use lib.ListN.{length, get_or, set, length-set}
 use lib.Seq.{get_or-set_same, get_or-set_other, set-set, set-get_or}
 use borrow.Author.Rules.{rules}
-use borrow.Author.Tests.{eq-eqb, ne_eqb}
+use borrow.Author.Tests.{ne_eqb}
 use Rattle.laws.specs.Pick.{pick}
 use Rattle.words.specs.declared.Ref.{Ref}
-use Rattle.words.specs.declared.Cell.{Cell}
-use Rattle.words.specs.declared.Cell.TheVariants.{Unbound, Bound}
+use Rattle.words.specs.declared.Cell.TheVariants.{Bound}
 use Rattle.words.specs.Words.{cell_word, ref_of}
 use Rattle.terms.specs.declared.unify.Taken.{Taken}
 use Rattle.terms.specs.declared.unify.Taken.TheVariants.{Died, Differ, Same, Bind, Arguments}
-use Rattle.terms.specs.Unify.{look_of, Marked, marked, bind_in, Item, refs, args, left_of, right_of, arg_items, Solved, took_pair, solve}
+use Rattle.terms.specs.Unify.{look_of, Marked, marked, bind_in, Item, refs, args, left_of, right_of, arg_items, took_pair, solve}
 use Rattle.terms.specs.Took.{go_on, entry_of, word_back, mark_back, undo_of, BoundTo, Took}
 use Rattle.terms.proofs.Named.{binds_unbound, few_arguments}
 

@@ -2,20 +2,18 @@
 use mathlib.Core.Path.{◌≡◌, refl, sym, ap, subst, ◌∙◌}
 use mathlib.Core.Bool.{Bool, true, false, ◌&&◌, true≢false}
 use mathlib.Core.List.{List, [], ◌∷◌, ◌++◌}
-use Prim.Native.Nat.{ℕ, zero, suc, ◌+◌, ◌-◌, ◌*◌, ◌^◌, ◌<◌, ◌≤◌}
+use Prim.Native.Nat.{ℕ, zero, suc, ◌+◌, ◌<◌, ◌≤◌}
 use native.Mathlib.Omega.{arith}
 use native.Mathlib.Decide.{ℕ_discrete, dec_lt}
 use lib.Dec.{eqb}
-use lib.ListN.{length, get_or, set, length-set, get_or-eq_default}
+use lib.ListN.{length, get_or, set, get_or-eq_default}
 use lib.Seq.{get_or-set_same, get_or-set_other}
 use borrow.Author.Tests.{eqb-true}
-use Rattle.laws.specs.Pick.{pick}
 use Rattle.words.specs.declared.Ref.{Ref}
 use Rattle.words.specs.declared.Cell.{Cell}
 use Rattle.words.specs.declared.Cell.TheVariants.{Unbound, Bound, Int, Head, Argument}
 use Rattle.words.specs.declared.Word.{Word}
-use Rattle.words.specs.declared.Word.TheVariants as Word
-use Rattle.words.specs.Words.{cell_word, ref_of, unpack_heap}
+use Rattle.words.specs.Words.{cell_word, unpack_heap}
 use Rattle.words.specs.Integers.{same_int}
 use Rattle.words.specs.Fit.{RefFits, CellFits}
 use Rattle.words.proofs.Rounds.{ref_in_lem}
@@ -25,7 +23,7 @@ use Rattle.machine.specs.Unify.{Pair, younger}
 use Rattle.terms.specs.declared.unify.Taken.{Taken}
 use Rattle.terms.specs.declared.unify.Taken.TheVariants.{Died, Differ, Same, Bind, Arguments}
 use Rattle.terms.specs.Deref.{ends_at, on_cell, on_word, deref_in, deref_of}
-use Rattle.terms.specs.Unify.{meet_of, both_found, look_of, Marked, marked, bind_in, Item, refs, args, left_of, right_of, arg_items, Solved, took_pair, solve}
+use Rattle.terms.specs.Unify.{meet_of, both_found, look_of, Marked, marked, bind_in, Item, refs, args, left_of, right_of, arg_items, took_pair, solve}
 use Rattle.terms.specs.Eager.{pair, arg_pairs, took_now, solve_now, Whole}
 use Rattle.terms.proofs.FoundWords.{pick_keeps, found_says, filled_word, filled_fits}
 

@@ -1,5 +1,5 @@
 -- What each way out of deref gives. The premises are what a test, a `let .. else` and the calls before it tell.
-use mathlib.Core.Path.{◌≡◌, refl, sym, ap, ◌∙◌}
+use mathlib.Core.Path.{◌≡◌, refl, ◌∙◌}
 use mathlib.Core.Bool.{Bool, true, false}
 use mathlib.Core.List.{List, [], ◌∷◌}
 use Prim.Native.Nat.{ℕ, suc, ◌-◌, ◌<◌, ◌≤◌}
@@ -13,7 +13,6 @@ use Rattle.words.specs.declared.Ref.{Ref}
 use Rattle.words.specs.declared.Cell.{Cell}
 use Rattle.words.specs.declared.Cell.TheVariants.{Unbound, Bound, Int, Head, Argument}
 use Rattle.words.specs.declared.Word.{Word}
-use Rattle.words.specs.declared.Word.TheVariants as Word
 use Rattle.words.specs.Words.{unpack_heap}
 use Rattle.words.specs.contracts.Cell as CellType
 use Rattle.words.specs.contracts.Word as WordType

@@ -1,9 +1,9 @@
 -- What deref finds stands in the heap: the word at the reference that it gives says the cell that it gives.
-use mathlib.Core.Path.{◌≡◌, refl, sym, ap, subst, ◌∙◌}
+use mathlib.Core.Path.{◌≡◌, refl, subst}
 use mathlib.Core.Bool.{Bool, true, false}
 use mathlib.Core.List.{List}
 use mathlib.Core.Logic.{◌≢◌}
-use Prim.Native.Nat.{ℕ, zero, suc, ◌+◌, ◌*◌, ◌%◌, ◌^◌, ◌<◌, ◌≤◌}
+use Prim.Native.Nat.{ℕ, zero, suc}
 use native.Mathlib.Omega.{arith}
 use lib.ListN.{length, get_or}
 use Rattle.laws.specs.Pick.{pick}
@@ -11,7 +11,6 @@ use Rattle.words.specs.declared.Ref.{Ref}
 use Rattle.words.specs.declared.Cell.{Cell}
 use Rattle.words.specs.declared.Cell.TheVariants.{Unbound, Bound, Int, Head, Argument}
 use Rattle.words.specs.declared.Word.{Word}
-use Rattle.words.specs.declared.Word.TheVariants as Word
 use Rattle.words.specs.Words.{heap_word, cell_word, unpack_heap}
 use Rattle.words.specs.Fit.{WordFits, CellFits}
 use Rattle.words.proofs.Rounds.{heap_exact, heap_fits}

@@ -1,12 +1,10 @@
 -- What two cells come to, case by case. The premises are what a `match`, a test and the calls before it tell.
 use mathlib.Core.Path.{◌≡◌, refl, sym, ap, ◌∙◌}
-use mathlib.Core.Bool.{Bool, true, false, ◌&&◌}
+use mathlib.Core.Bool.{Bool, true, false}
 use mathlib.Core.List.{List, [], ◌∷◌}
-use Prim.Native.Nat.{ℕ, zero, suc, ◌<◌, ◌≤◌}
-use native.Mathlib.Omega.{arith}
-use lib.Dec.{eqb, ltb}
+use Prim.Native.Nat.{ℕ}
+use lib.Dec.{ltb}
 use lib.IntN.{ℤ, pos, negsuc}
-use lib.ListN.{length, get_or}
 use mir.Syntax.{w32}
 use mir.Val.{SFits, of_z, to_z}
 use mir.Facts.{to_z-of_z}
@@ -14,7 +12,6 @@ use borrow.Author.Rules.{rules}
 use borrow.Author.Tests.{eq-eqb, ne_eqb}
 use types.Run.{OneOf, miss}
 use denote.Enum.Declared.{tag_of}
-use Rattle.laws.specs.Base.{if◌then◌else◌}
 use Rattle.laws.specs.Pick.{pick}
 use Rattle.words.specs.declared.Ref.{Ref}
 use Rattle.words.specs.declared.Cell.{Cell}

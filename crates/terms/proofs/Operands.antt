@@ -1,12 +1,11 @@
 -- What the registers of the present copy hold, and what op 7 answers. The premises are what a `let .. else`, a test and the calls before it tell.
-use mathlib.Core.Path.{◌≡◌, refl, sym, ap, subst, ◌∙◌}
+use mathlib.Core.Path.{◌≡◌, refl, sym, ◌∙◌}
 use mathlib.Core.Bool.{Bool, true, false}
 use mathlib.Core.List.{List, [], ◌∷◌}
-use Prim.Native.Nat.{ℕ, ◌+◌, ◌*◌, ◌%◌, ◌^◌, ◌<◌, ◌≤◌}
-use native.Mathlib.Nat.{mod-eq_of_lt}
+use Prim.Native.Nat.{ℕ, ◌+◌, ◌*◌, ◌%◌, ◌^◌}
 use native.Mathlib.Omega.{arith}
 use lib.IntN.{ℤ}
-use lib.ListN.{length, get_or}
+use lib.ListN.{get_or}
 use borrow.Author.Rules.{rules}
 use mir.Syntax.{w32}
 use mir.Val.{Fits}
@@ -17,14 +16,12 @@ use Rattle.laws.specs.Pick.{pick}
 use Rattle.words.specs.declared.Ref.{Ref}
 use Rattle.words.specs.declared.Cell.{Cell}
 use Rattle.words.specs.declared.Cell.TheVariants.{Unbound, Bound, Int, Head, Argument}
-use Rattle.words.specs.declared.Word.TheVariants as Word
 use Rattle.words.specs.declared.Register.{Register}
 use Rattle.words.specs.declared.Register.TheVariants.{Empty, Region, Term}
 use Rattle.words.specs.declared.Held.{Held}
-use Rattle.words.specs.declared.Held.TheVariants as Held
 use Rattle.words.specs.declared.Answer.{Answer}
 use Rattle.words.specs.Integers.{bits_of}
-use Rattle.words.specs.Words.{register_word, unpack_heap, unpack_register}
+use Rattle.words.specs.Words.{register_word, unpack_register}
 use Rattle.words.specs.Answers.{plain}
 use Rattle.words.specs.Fit.{CellFits}
 use Rattle.words.specs.contracts.Register as RegisterType
@@ -33,9 +30,8 @@ use Rattle.machine.specs.declared.Found.TheVariants.{Dead, At}
 use Rattle.machine.specs.Run.{kind_of, payload_of}
 use Rattle.store.specs.Pages.{live_ref}
 use Rattle.store.specs.Rows.{present, register_at, register_set}
-use Rattle.terms.specs.declared.deref.Operand.{Operand}
 use Rattle.terms.specs.declared.deref.Operand.TheVariants.{Missing, Live}
-use Rattle.terms.specs.Deref.{deref_of, held_at, on_term, found_at, operand_at, on_found, seen, deref_answer, deref_tables}
+use Rattle.terms.specs.Deref.{deref_of, held_at, on_term, found_at, operand_at, on_found, deref_answer, deref_tables}
 use Rattle.terms.proofs.FoundWords.{found_says, filled_fits}
 
 -- ---- a register

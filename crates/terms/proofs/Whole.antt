@@ -1,12 +1,11 @@
 -- A unification as a whole: the undo, and what the call answers.
-use mathlib.Core.Path.{◌≡◌, refl, sym, ap, ◌∙◌}
-use mathlib.Core.List.{List, [], ◌∷◌, ◌++◌}
-use Prim.Native.Nat.{ℕ, zero, suc, ◌+◌, ◌-◌, ◌*◌, ◌/◌, ◌%◌, ◌^◌, ◌<◌, ◌≤◌}
+use mathlib.Core.Path.{◌≡◌, refl, ◌∙◌}
+use mathlib.Core.List.{List, [], ◌∷◌}
+use Prim.Native.Nat.{ℕ, zero, suc, ◌-◌, ◌/◌, ◌%◌, ◌^◌, ◌<◌, ◌≤◌}
 use native.Mathlib.Omega.{arith}
-use lib.Dec.{eqb}
-use lib.ListN.{length, get_or, set}
+use lib.ListN.{get_or, set}
 use borrow.Author.Rules.{rules}
-use borrow.Author.Tests.{eq-eqb, ne_eqb}
+use borrow.Author.Tests.{ne_eqb}
 use Rattle.laws.specs.Pick.{pick}
 use Rattle.words.specs.declared.Ref.{Ref}
 use Rattle.words.specs.declared.Answer.{Answer}
@@ -15,11 +14,9 @@ use Rattle.words.specs.Answers.{plain}
 use Rattle.words.specs.Words.{cell_word}
 use Rattle.store.specs.Rows.{present}
 use Rattle.terms.specs.declared.deref.Operand.{Operand}
-use Rattle.terms.specs.declared.deref.Operand.TheVariants as Operand
 use Rattle.terms.specs.declared.unify.Operands.{Operands}
-use Rattle.terms.specs.declared.unify.Operands.TheVariants as Operands
 use Rattle.terms.specs.Deref.{operand_at}
-use Rattle.terms.specs.Unify.{Marked, marked, Item, refs, solved, solve, unified, settled, unify_terms, on_operand, on_operands, operands_at, unify_of}
+use Rattle.terms.specs.Unify.{Marked, marked, refs, solved, solve, unified, settled, unify_terms, on_operand, on_operands, operands_at, unify_of}
 use Rattle.terms.specs.Took.{go_on, word_back, mark_back, undo_of, Took}
 
 -- ---- the undo

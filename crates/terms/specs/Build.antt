@@ -1,6 +1,6 @@
 -- Ops 3, 4 and 5 over the lent memory: the words of a term go into a region, and a register refers to the first of them.
 use Rattle.std.specs.Prelude.{Bool, true, false, List, [], ◌∷◌, ℕ, zero, suc, ◌+◌, ◌*◌, ◌%◌, ◌^◌, leb, ℤ, length, set}
-use Rattle.std.proofs.Math.Option.{none, some}
+use Rattle.std.proofs.Math.Option.{some}
 use Rattle.laws.specs.declared.Sought.{Sought}
 use Rattle.laws.specs.declared.Sought.TheVariants.{At, Nowhere}
 use Rattle.laws.specs.Pick.{pick}
@@ -9,7 +9,6 @@ use Rattle.words.specs.declared.Ref.{Ref}
 use Rattle.words.specs.declared.Cell.TheVariants.{Unbound, Int, Head, Argument}
 use Rattle.words.specs.declared.Register.TheVariants.{Empty, Region, Term}
 use Rattle.words.specs.declared.Held.{Held}
-use Rattle.words.specs.declared.Held.TheVariants as Held
 use Rattle.words.specs.declared.Answer.{Answer}
 use Rattle.words.specs.Words.{cell_word, link_word, register_word, ref_of}
 use Rattle.words.specs.Answers.{plain}

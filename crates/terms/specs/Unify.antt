@@ -14,9 +14,7 @@ use Rattle.machine.specs.declared.Found.TheVariants.{Dead, At}
 use Rattle.machine.specs.Unify.{younger}
 use Rattle.store.specs.Rows.{present}
 use Rattle.terms.specs.declared.deref.Operand.{Operand}
-use Rattle.terms.specs.declared.deref.Operand.TheVariants as Operand
 use Rattle.terms.specs.declared.unify.Operands.{Operands}
-use Rattle.terms.specs.declared.unify.Operands.TheVariants as Operands
 use Rattle.terms.specs.declared.unify.Taken.{Taken}
 use Rattle.terms.specs.declared.unify.Taken.TheVariants.{Died, Differ, Same, Bind, Arguments}
 use Rattle.terms.specs.Deref.{deref_of, operand_at}

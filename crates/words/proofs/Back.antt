@@ -11,7 +11,6 @@ use Rattle.words.specs.declared.Cell.{Cell}
 use Rattle.words.specs.declared.Cell.TheVariants.{Unbound, Bound, Int, Head, Argument}
 use Rattle.words.specs.declared.Link.TheVariants.{Last, Joined}
 use Rattle.words.specs.declared.Word.{Word}
-use Rattle.words.specs.declared.Word.TheVariants as Word
 use Rattle.words.specs.declared.Register.{Register}
 use Rattle.words.specs.declared.Register.TheVariants.{Empty, Region, Term}
 use Rattle.words.specs.Fields.{bits, tagged, tag_of}

@@ -11,7 +11,6 @@ use Rattle.words.specs.declared.Ref.{Ref}
 use Rattle.words.specs.declared.Register.{Register}
 use Rattle.words.specs.declared.Register.TheVariants.{Empty, Region, Term}
 use Rattle.words.specs.declared.Held.{Held}
-use Rattle.words.specs.declared.Held.TheVariants as Held
 use Rattle.words.specs.Fields.{bits, tag_of}
 use Rattle.words.specs.Words.{register_word, ref_of, register_reading, unpack_register}
 use Rattle.words.specs.Exact.{exact_register}

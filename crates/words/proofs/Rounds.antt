@@ -11,11 +11,9 @@ use Rattle.laws.specs.Base.{if◌then◌else◌}
 use Rattle.words.specs.declared.Cell.TheVariants.{Unbound, Bound, Int, Head, Argument}
 use Rattle.words.specs.declared.Link.TheVariants.{Last, Joined}
 use Rattle.words.specs.declared.Word.{Word}
-use Rattle.words.specs.declared.Word.TheVariants as Word
 use Rattle.words.specs.declared.Register.{Register}
 use Rattle.words.specs.declared.Register.TheVariants.{Empty, Region, Term}
 use Rattle.words.specs.declared.Held.{Held}
-use Rattle.words.specs.declared.Held.TheVariants as Held
 use Rattle.words.specs.Fields.{bits, tag_of}
 use Rattle.words.specs.Words.{register_word, heap_word, stamp_of, ref_of, heap_reading, well_formed, unpack_heap, register_reading, unpack_register}
 use Rattle.words.specs.Fit.{RefFits, CellFits, LinkFits, WordFits, RegisterFits}

@@ -12,7 +12,6 @@ use Rattle.words.specs.declared.Ref.{Ref}
 use Rattle.words.specs.declared.Cell.TheVariants.{Unbound, Bound, Int, Head, Argument}
 use Rattle.words.specs.declared.Link.TheVariants.{Last, Joined}
 use Rattle.words.specs.declared.Word.{Word}
-use Rattle.words.specs.declared.Word.TheVariants as Word
 use Rattle.words.specs.Fields.{bits, tag_of}
 use Rattle.words.specs.Integers.{int_of}
 use Rattle.words.specs.Words.{heap_word, ref_of, link_of, heap_reading, well_formed, unpack_heap}

@@ -3,10 +3,8 @@ use Rattle.std.specs.Prelude.{◌&&◌, ℕ, ◌+◌, leb, eqb}
 use Rattle.laws.specs.Base.{if◌then◌else◌}
 use Rattle.words.specs.declared.Cell.TheVariants.{Head}
 use Rattle.words.specs.declared.Word.{Word}
-use Rattle.words.specs.declared.Word.TheVariants as Word
 use Rattle.words.specs.declared.Register.{Register}
 use Rattle.words.specs.declared.Held.{Held}
-use Rattle.words.specs.declared.Held.TheVariants as Held
 use Rattle.words.specs.declared.Step.{Step}
 use Rattle.words.specs.declared.Step.TheVariants.{Refused}
 use Rattle.words.specs.Fields.{bits}

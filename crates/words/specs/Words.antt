@@ -9,11 +9,9 @@ use Rattle.words.specs.declared.Cell.TheVariants.{Unbound, Bound, Int, Head, Arg
 use Rattle.words.specs.declared.Link.{Link}
 use Rattle.words.specs.declared.Link.TheVariants.{Last, Joined}
 use Rattle.words.specs.declared.Word.{Word}
-use Rattle.words.specs.declared.Word.TheVariants as Word
 use Rattle.words.specs.declared.Register.{Register}
 use Rattle.words.specs.declared.Register.TheVariants.{Empty, Region, Term}
 use Rattle.words.specs.declared.Held.{Held}
-use Rattle.words.specs.declared.Held.TheVariants as Held
 use Rattle.words.specs.Fields.{bits, tagged, tag_of}
 use Rattle.words.specs.Integers.{bits_of, int_of}
 

@@ -5,18 +5,18 @@ use Rattle.laws.proofs.Rules.{holds}
 use Rattle.audit.proofs.all_pages_ok.Statement.{statement}
 use Rattle.audit.proofs.all_pages_ok.Tie as tie
 
-abbrev invariant-loop : tie.invariant-loop
-invariant-loop first pages heap born turned n next p₀ end p = Holding (page_ok first pages heap born turned n next) pages first p
+abbrev invariant-loop-p : tie.invariant-loop-p
+invariant-loop-p first pages heap born turned n next p₀ end p = Holding (page_ok first pages heap born turned n next) pages first p
 
-abbrev decreases-loop : tie.decreases-loop
-decreases-loop first pages heap born turned n next p₀ end p = end - p
+abbrev decreases-loop-p : tie.decreases-loop-p
+decreases-loop-p first pages heap born turned n next p₀ end p = end - p
 
 pub all_pages_ok_spec : {M : Type 1} → statement M
 all_pages_ok_spec =
     tie.close
     (tie.spec
-    invariant-loop
-    decreases-loop
+    invariant-loop-p
+    decreases-loop-p
     (λ c. search holds)  -- add-end
     (λ c. search holds)  -- loop-holds
     (λ c κs. search holds)  -- page-ok-requires

@@ -25,8 +25,8 @@ abbrev cells-ok-below : ℕ → In 3 cells-ok-kinds.ps
 cells-ok-below t =
     and 3 cells-ok-kinds.ps (falls 3 cells-ok-kinds.ps ◌<◌ μ-cells-ok t) cells-ok.Pre
 
-pub +cells-ok-spec : {M : Type 1} → statement M
-+cells-ok-spec =
+pub +cells_ok_spec : {M : Type 1} → statement M
++cells_ok_spec =
     close μ-cells-ok
     (λ t. cells-ok-lts.spec (word-reads.Asked, word-reads.Learnt, rest-ok-reads.Asked, rest-ok-reads.Learnt, unpack-heap-reads.Asked, unpack-heap-reads.Learnt, filled-ok-reads.Asked, filled-ok-reads.Learnt, more-after-reads.Asked, more-after-reads.Learnt, mark-reads.Asked, mark-reads.Learnt, cells-ok-below t, cells-ok.Post) (cells-ok-at t) cells-ok.Post
     (λ c. search word_cases)  -- cells-ok-returns

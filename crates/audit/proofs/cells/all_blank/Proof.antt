@@ -5,18 +5,18 @@ use Rattle.laws.proofs.Rules.{holds}
 use Rattle.audit.proofs.cells.all_blank.Statement.{statement}
 use Rattle.audit.proofs.cells.all_blank.Tie as tie
 
-abbrev invariant-loop : tie.invariant-loop
-invariant-loop heap born turned count p i a₀ end a = Holding (blank heap born turned) count (p * 16 + i) a
+abbrev invariant-loop-a : tie.invariant-loop-a
+invariant-loop-a heap born turned count p i a₀ end a = Holding (blank heap born turned) count (p * 16 + i) a
 
-abbrev decreases-loop : tie.decreases-loop
-decreases-loop heap born turned count p i a₀ end a = end - a
+abbrev decreases-loop-a : tie.decreases-loop-a
+decreases-loop-a heap born turned count p i a₀ end a = end - a
 
 pub all_blank_spec : {M : Type 1} → statement M
 all_blank_spec =
     tie.close
     (tie.spec
-    invariant-loop
-    decreases-loop
+    invariant-loop-a
+    decreases-loop-a
     (λ c. search holds)  -- mul-a
     (λ c. search holds)  -- add-a
     (λ c. search holds)  -- add-end

@@ -3,18 +3,18 @@ use Rattle.audit.proofs.LinkCases.{endings}
 use Rattle.audit.proofs.links.ends_in.Statement.{statement}
 use Rattle.audit.proofs.links.ends_in.Tie as tie
 
-abbrev invariant-loop : tie.invariant-loop
-invariant-loop words k p at₀ left₀ at left = Ending words k p left at
+abbrev invariant-loop-left : tie.invariant-loop-left
+invariant-loop-left words k p at₀ left₀ at left = Ending words k p left at
 
-abbrev decreases-loop : tie.decreases-loop
-decreases-loop words k p at₀ left₀ at left = left
+abbrev decreases-loop-left : tie.decreases-loop-left
+decreases-loop-left words k p at₀ left₀ at left = left
 
 pub ends_in_spec : {M : Type 1} → statement M
 ends_in_spec =
     tie.close
     (tie.spec
-    invariant-loop
-    decreases-loop
+    invariant-loop-left
+    decreases-loop-left
     (λ c. search endings)  -- loop-holds
     (λ c κs. search endings)  -- has-next-requires
     (λ c κs. search endings)  -- next-page-requires

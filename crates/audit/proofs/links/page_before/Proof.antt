@@ -5,18 +5,18 @@ use Rattle.laws.proofs.Rules.{scans}
 use Rattle.audit.proofs.links.page_before.Statement.{statement}
 use Rattle.audit.proofs.links.page_before.Tie as tie
 
-abbrev invariant-loop : tie.invariant-loop
-invariant-loop words first pages q p₀ end p = Scanning (names_next words q) pages first p
+abbrev invariant-loop-p : tie.invariant-loop-p
+invariant-loop-p words first pages q p₀ end p = Scanning (names_next words q) pages first p
 
-abbrev decreases-loop : tie.decreases-loop
-decreases-loop words first pages q p₀ end p = end - p
+abbrev decreases-loop-p : tie.decreases-loop-p
+decreases-loop-p words first pages q p₀ end p = end - p
 
 pub page_before_spec : {M : Type 1} → statement M
 page_before_spec =
     tie.close
     (tie.spec
-    invariant-loop
-    decreases-loop
+    invariant-loop-p
+    decreases-loop-p
     (λ c. search scans)  -- add-end
     (λ c. search scans)  -- loop-holds
     (λ c κs. search scans)  -- names-next-requires

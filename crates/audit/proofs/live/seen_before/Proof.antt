@@ -6,19 +6,19 @@ use Rattle.audit.proofs.Rules.{finds}
 use Rattle.audit.proofs.live.seen_before.Statement.{statement}
 use Rattle.audit.proofs.live.seen_before.Tie as tie
 
-abbrev invariant-loop : tie.invariant-loop
-invariant-loop first pages heap born turned n s since upto bound p₀ end p = Scanning (seen_at heap born turned n s since upto bound) pages first p
+abbrev invariant-loop-p : tie.invariant-loop-p
+invariant-loop-p first pages heap born turned n s since upto bound p₀ end p = Scanning (seen_at heap born turned n s since upto bound) pages first p
 
-abbrev decreases-loop : tie.decreases-loop
-decreases-loop first pages heap born turned n s since upto bound p₀ end p = end - p
+abbrev decreases-loop-p : tie.decreases-loop-p
+decreases-loop-p first pages heap born turned n s since upto bound p₀ end p = end - p
 
 pub seen_before_spec : {M : Type 1} → statement M
 unfolding seen_before
 seen_before_spec =
     tie.close
     (tie.spec
-    invariant-loop
-    decreases-loop
+    invariant-loop-p
+    decreases-loop-p
     (λ c. search finds)  -- add-end
     (λ c. search finds)  -- loop-holds
     (λ c κs. search finds)  -- seen-at-requires

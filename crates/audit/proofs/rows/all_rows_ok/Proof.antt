@@ -5,18 +5,18 @@ use Rattle.laws.proofs.Rules.{holds}
 use Rattle.audit.proofs.rows.all_rows_ok.Statement.{statement}
 use Rattle.audit.proofs.rows.all_rows_ok.Tie as tie
 
-abbrev invariant-loop : tie.invariant-loop
-invariant-loop first pages heap tables born turned n next c₀ end c = Holding (row_ok first pages heap born turned n next tables) n 1 c
+abbrev invariant-loop-c : tie.invariant-loop-c
+invariant-loop-c first pages heap tables born turned n next c₀ end c = Holding (row_ok first pages heap born turned n next tables) n 1 c
 
-abbrev decreases-loop : tie.decreases-loop
-decreases-loop first pages heap tables born turned n next c₀ end c = end - c
+abbrev decreases-loop-c : tie.decreases-loop-c
+decreases-loop-c first pages heap tables born turned n next c₀ end c = end - c
 
 pub all_rows_ok_spec : {M : Type 1} → statement M
 all_rows_ok_spec =
     tie.close
     (tie.spec
-    invariant-loop
-    decreases-loop
+    invariant-loop-c
+    decreases-loop-c
     (λ c. search holds)  -- add-end
     (λ c. search holds)  -- loop-holds
     (λ c. search holds)  -- cast-row-ok

@@ -5,19 +5,19 @@ use Rattle.audit.proofs.RowCases.{zeros}
 use Rattle.audit.proofs.rows.zero_marks.Statement.{statement}
 use Rattle.audit.proofs.rows.zero_marks.Tie as tie
 
-abbrev invariant-loop : tie.invariant-loop
-invariant-loop marks start end i₀ i = Holding (is_zero marks) (end - start) start i
+abbrev invariant-loop-i : tie.invariant-loop-i
+invariant-loop-i marks start end i₀ i = Holding (is_zero marks) (end - start) start i
 
-abbrev decreases-loop : tie.decreases-loop
-decreases-loop marks start end i₀ i = end - i
+abbrev decreases-loop-i : tie.decreases-loop-i
+decreases-loop-i marks start end i₀ i = end - i
 
 pub zero_marks_spec : {M : Type 1} → statement M
 unfolding zero_to is_zero
 zero_marks_spec =
     tie.close
     (tie.spec
-    invariant-loop
-    decreases-loop
+    invariant-loop-i
+    decreases-loop-i
     (λ c. search zeros)  -- loop-holds
     (λ c κs. search zeros)  -- mark-requires
     (λ c. search zeros)  -- add-i

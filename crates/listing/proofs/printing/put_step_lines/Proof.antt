@@ -9,18 +9,18 @@ use Rattle.listing.proofs.Text.{printing}
 use Rattle.listing.proofs.printing.put_step_lines.Statement.{statement}
 use Rattle.listing.proofs.printing.put_step_lines.Tie as tie
 
-abbrev invariant-loop : tie.invariant-loop
-invariant-loop out₀ at number answers first p₀ i₀ out p i = (length out ≡ length out₀) × Turning (λ k. writes (step_line (number + k) (answer_of (get_or answers k 0)))) (length answers) i (written out₀ at) (written out p)
+abbrev invariant-loop-i : tie.invariant-loop-i
+invariant-loop-i out₀ at number answers first p₀ i₀ out p i = (length out ≡ length out₀) × Turning (λ k. writes (step_line (number + k) (answer_of (get_or answers k 0)))) (length answers) i (written out₀ at) (written out p)
 
-abbrev decreases-loop : tie.decreases-loop
-decreases-loop out₀ at number answers first p₀ i₀ out p i = length answers - i
+abbrev decreases-loop-i : tie.decreases-loop-i
+decreases-loop-i out₀ at number answers first p₀ i₀ out p i = length answers - i
 
 pub put_step_lines_spec : {M : Type 1} → statement M
 put_step_lines_spec =
     tie.close
     (tie.spec
-    invariant-loop
-    decreases-loop
+    invariant-loop-i
+    decreases-loop-i
     (λ c. search printing)  -- loop-holds
     (λ c. search printing)  -- add-put-answer
     (λ c. search printing)  -- mul-put-answer

@@ -8,18 +8,18 @@ use Rattle.listing.proofs.Text.{printing}
 use Rattle.listing.proofs.printing.put_text.Statement.{statement}
 use Rattle.listing.proofs.printing.put_text.Tie as tie
 
-abbrev invariant-loop : tie.invariant-loop
-invariant-loop out₀ at text p₀ i₀ out p i = (length out ≡ length out₀) × Turning (λ k. writes (get_or text k 0 ∷ [])) (length text) i (written out₀ at) (written out p)
+abbrev invariant-loop-i : tie.invariant-loop-i
+invariant-loop-i out₀ at text p₀ i₀ out p i = (length out ≡ length out₀) × Turning (λ k. writes (get_or text k 0 ∷ [])) (length text) i (written out₀ at) (written out p)
 
-abbrev decreases-loop : tie.decreases-loop
-decreases-loop out₀ at text p₀ i₀ out p i = length text - i
+abbrev decreases-loop-i : tie.decreases-loop-i
+decreases-loop-i out₀ at text p₀ i₀ out p i = length text - i
 
 pub put_text_spec : {M : Type 1} → statement M
 put_text_spec =
     tie.close
     (tie.spec
-    invariant-loop
-    decreases-loop
+    invariant-loop-i
+    decreases-loop-i
     (λ c. search printing)  -- loop-holds
     (λ c. search printing)  -- shared-slice-read-put-byte
     (λ c κs. search printing)  -- put-byte-requires

@@ -7,19 +7,19 @@ use Rattle.store.proofs.Links.{fills}
 use Rattle.store.proofs.pages.fill.Statement.{statement}
 use Rattle.store.proofs.pages.fill.Tie as tie
 
-abbrev invariant-loop : tie.invariant-loop
-invariant-loop heap p last start i₀ i = Scanning (λ i. eqb (get_or heap (p * 16 + 1 + i) 0) 0) 15 0 i
+abbrev invariant-loop-i : tie.invariant-loop-i
+invariant-loop-i heap p last start i₀ i = Scanning (λ i. eqb (get_or heap (p * 16 + 1 + i) 0) 0) 15 0 i
 
-abbrev decreases-loop : tie.decreases-loop
-decreases-loop heap p last start i₀ i = 15 - i
+abbrev decreases-loop-i : tie.decreases-loop-i
+decreases-loop-i heap p last start i₀ i = 15 - i
 
 pub fill_spec : {M : Type 1} → statement M
 unfolding fill
 fill_spec =
     tie.close
     (tie.spec
-    invariant-loop
-    decreases-loop
+    invariant-loop-i
+    decreases-loop-i
     (λ c. search fills)  -- returns
     (λ c. search fills)  -- mul-start
     (λ c. search fills)  -- add-start

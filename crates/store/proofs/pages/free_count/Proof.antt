@@ -1,4 +1,4 @@
-use Prim.Native.Nat.{◌+◌, ◌-◌}
+use Prim.Native.Nat.{◌-◌}
 use Rattle.laws.proofs.Turns.{Counting}
 use Rattle.store.specs.Pages.{is_free}
 use Rattle.store.specs.Pages.{free_count}
@@ -6,19 +6,19 @@ use Rattle.store.proofs.Links.{counts}
 use Rattle.store.proofs.pages.free_count.Statement.{statement}
 use Rattle.store.proofs.pages.free_count.Tie as tie
 
-abbrev invariant-loop : tie.invariant-loop
-invariant-loop heap first pages p₀ end free₀ p free = Counting (is_free heap) pages first p free
+abbrev invariant-loop-p : tie.invariant-loop-p
+invariant-loop-p heap first pages p₀ end free₀ p free = Counting (is_free heap) pages first p free
 
-abbrev decreases-loop : tie.decreases-loop
-decreases-loop heap first pages p₀ end free₀ p free = end - p
+abbrev decreases-loop-p : tie.decreases-loop-p
+decreases-loop-p heap first pages p₀ end free₀ p free = end - p
 
 pub free_count_spec : {M : Type 1} → statement M
 unfolding free_count
 free_count_spec =
     tie.close
     (tie.spec
-    invariant-loop
-    decreases-loop
+    invariant-loop-p
+    decreases-loop-p
     (λ c. search counts)  -- add-end
     (λ c. search counts)  -- loop-holds
     (λ c κs. search counts)  -- is-free-requires

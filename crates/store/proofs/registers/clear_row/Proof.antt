@@ -8,19 +8,19 @@ use Rattle.laws.proofs.Rules.{turns}
 use Rattle.store.proofs.registers.clear_row.Statement.{statement}
 use Rattle.store.proofs.registers.clear_row.Tie as tie
 
-abbrev invariant-loop : tie.invariant-loop
-invariant-loop tables₀ n r₀ tables r = (length tables ≡ length tables₀) × Turning (λ r t. register_set t n r 0) 32 r tables₀ tables
+abbrev invariant-loop-r : tie.invariant-loop-r
+invariant-loop-r tables₀ n r₀ tables r = (length tables ≡ length tables₀) × Turning (λ r t. register_set t n r 0) 32 r tables₀ tables
 
-abbrev decreases-loop : tie.decreases-loop
-decreases-loop tables₀ n r₀ tables r = 32 - r
+abbrev decreases-loop-r : tie.decreases-loop-r
+decreases-loop-r tables₀ n r₀ tables r = 32 - r
 
 pub clear_row_spec : {M : Type 1} → statement M
 unfolding row_cleared
 clear_row_spec =
     tie.close
     (tie.spec
-    invariant-loop
-    decreases-loop
+    invariant-loop-r
+    decreases-loop-r
     (λ c. search turns)  -- loop-holds
     (λ c κs. search turns)  -- set-register-requires
     (λ c. search turns)  -- add-r

@@ -9,21 +9,21 @@ use Rattle.laws.proofs.Rules.{turns}
 use Rattle.store.proofs.undo.undo_cells.Statement.{statement}
 use Rattle.store.proofs.undo.undo_cells.Tie as tie
 
-abbrev invariant-loop : tie.invariant-loop
-invariant-loop heap₀ born₀ turned₀ first pages which j last start end i₀ heap born turned i =
+abbrev invariant-loop-i : tie.invariant-loop-i
+invariant-loop-i heap₀ born₀ turned₀ first pages which j last start end i₀ heap born turned i =
     (length heap ≡ length heap₀) × (length born ≡ length born₀) × (length turned ≡ length turned₀)
     × Turning (λ k. cell_after which j last (first * 16 + k)) (pages * 16) i (memory heap₀ born₀ turned₀) (memory heap born turned)
 
-abbrev decreases-loop : tie.decreases-loop
-decreases-loop heap₀ born₀ turned₀ first pages which j last start end i₀ heap born turned i = end - i
+abbrev decreases-loop-i : tie.decreases-loop-i
+decreases-loop-i heap₀ born₀ turned₀ first pages which j last start end i₀ heap born turned i = end - i
 
 pub undo_cells_spec : {M : Type 1} → statement M
 unfolding cells_after
 undo_cells_spec =
     tie.close
     (tie.spec
-    invariant-loop
-    decreases-loop
+    invariant-loop-i
+    decreases-loop-i
     (λ c. search turns)  -- mul-start
     (λ c. search turns)  -- mul-end
     (λ c. search turns)  -- loop-holds

@@ -9,21 +9,21 @@ use Rattle.laws.proofs.Rules.{turns}
 use Rattle.store.proofs.undo.undo_marks.Statement.{statement}
 use Rattle.store.proofs.undo.undo_marks.Tie as tie
 
-abbrev invariant-loop : tie.invariant-loop
-invariant-loop heap born₀ turned₀ first pages which j last start end i₀ born turned i =
+abbrev invariant-loop-i : tie.invariant-loop-i
+invariant-loop-i heap born₀ turned₀ first pages which j last start end i₀ born turned i =
     (length born ≡ length born₀) × (length turned ≡ length turned₀)
     × Turning (λ k. mark_after which j last (first + k)) pages i (memory heap born₀ turned₀) (memory heap born turned)
 
-abbrev decreases-loop : tie.decreases-loop
-decreases-loop heap born₀ turned₀ first pages which j last start end i₀ born turned i = end - i
+abbrev decreases-loop-i : tie.decreases-loop-i
+decreases-loop-i heap born₀ turned₀ first pages which j last start end i₀ born turned i = end - i
 
 pub undo_marks_spec : {M : Type 1} → statement M
 unfolding marks_after
 undo_marks_spec =
     tie.close
     (tie.spec
-    invariant-loop
-    decreases-loop
+    invariant-loop-i
+    decreases-loop-i
     (λ c. search turns)  -- loop-holds
     (λ c. search turns)  -- add-undo-mark
     (λ c κs. search turns)  -- undo-mark-requires

@@ -6,19 +6,19 @@ use Rattle.terms.proofs.Filling.{Filling, filling}
 use Rattle.terms.proofs.build.fill_all.Statement.{statement}
 use Rattle.terms.proofs.build.fill_all.Tie as tie
 
-abbrev invariant-loop : tie.invariant-loop
-invariant-loop heap₀ born₀ n p filled term start i₀ heap born i =
+abbrev invariant-loop-i : tie.invariant-loop-i
+invariant-loop-i heap₀ born₀ n p filled term start i₀ heap born i =
     (length heap ≡ length heap₀) × (length born ≡ length born₀) × Filling n (p * 16 + filled + 1) term i (unturned heap₀ born₀) (unturned heap born)
 
-abbrev decreases-loop : tie.decreases-loop
-decreases-loop heap₀ born₀ n p filled term start i₀ heap born i = length term - i
+abbrev decreases-loop-i : tie.decreases-loop-i
+decreases-loop-i heap₀ born₀ n p filled term start i₀ heap born i = length term - i
 
 pub fill_all_spec : {M : Type 1} → statement M
 fill_all_spec =
     tie.close
     (tie.spec
-    invariant-loop
-    decreases-loop
+    invariant-loop-i
+    decreases-loop-i
     (λ c. search filling)  -- mul-start
     (λ c. search filling)  -- add-start
     (λ c. search filling)  -- add-start-2

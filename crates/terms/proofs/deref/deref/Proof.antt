@@ -4,18 +4,18 @@ use Rattle.terms.proofs.Following.{following}
 use Rattle.terms.proofs.deref.deref.Statement.{statement}
 use Rattle.terms.proofs.deref.deref.Tie as tie
 
-abbrev invariant-loop : tie.invariant-loop
-invariant-loop heap turned r₀ fuel₀ r fuel = deref_in fuel heap turned r ≡ deref_of heap turned r₀
+abbrev invariant-loop-fuel : tie.invariant-loop-fuel
+invariant-loop-fuel heap turned r₀ fuel₀ r fuel = deref_in fuel heap turned r ≡ deref_of heap turned r₀
 
-abbrev decreases-loop : tie.decreases-loop
-decreases-loop heap turned r₀ fuel₀ r fuel = fuel
+abbrev decreases-loop-fuel : tie.decreases-loop-fuel
+decreases-loop-fuel heap turned r₀ fuel₀ r fuel = fuel
 
 pub deref_spec : {M : Type 1} → statement M
 deref_spec =
     tie.close
     (tie.spec
-    invariant-loop
-    decreases-loop
+    invariant-loop-fuel
+    decreases-loop-fuel
     (λ c. search following)  -- loop-holds
     (λ c κs. search following)  -- live-requires
     (λ c. search following)  -- cast-a
