@@ -1,4 +1,5 @@
 -- Laws of lists, tests and `Each` and `Pairs`. Nothing here is about the machine.
+use Rattle.std.specs.Prelude.{if◌then◌else◌}
 use mathlib.Core.Path.{◌≡◌, refl, sym, ap, ◌∙◌, subst}
 use mathlib.Core.Bool.{Bool, true, false, not, ◌||◌, true≢false}
 use mathlib.Core.Logic.{◌⊎◌, inl, inr, ◌≢◌}
@@ -8,7 +9,7 @@ use mathlib.Core.Option.{some, none-ne-some, some-injective}
 use Prim.Native.Nat.{ℕ, zero, suc, ◌≤◌}
 use native.Mathlib.Omega.{arith}
 use lib.ListN.{length, get_or, set, replicate}
-use Rattle.laws.specs.Base.{if◌then◌else◌, keep, first, some_of, Each, Pairs}
+use Rattle.laws.specs.Base.{keep, first, some_of, Each, Pairs}
 
 pub each_replicate : {A : Type 0} (P : A → Type 0) (n : ℕ) (x : A) → P x → Each P (replicate n x)
 each_replicate P zero x h = tt

@@ -1,4 +1,5 @@
 -- The laws of `oldest`, `newest` and `tab`.
+use Rattle.std.specs.Prelude.{if◌then◌else◌}
 use mathlib.Core.Path.{◌≡◌, refl, sym, ap}
 use mathlib.Core.Bool.{Bool, true, false}
 use mathlib.Core.List.{◌∷◌}
@@ -7,7 +8,6 @@ use native.Mathlib.Omega.{arith}
 use lib.Dec.{leb, eqb}
 use lib.ListN.{length, get_or}
 use borrow.Author.Tests.{ne_eqb, eq-eqb}
-use Rattle.laws.specs.Base.{if◌then◌else◌}
 use Rattle.laws.specs.Search.{oldest, newest, tab}
 use Rattle.laws.proofs.Tests.{tests}
 

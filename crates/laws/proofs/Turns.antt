@@ -1,11 +1,11 @@
 -- Loops that count turns: all of a range, a count over a range, and a state that each turn changes.
+use Rattle.std.specs.Prelude.{if◌then◌else◌}
 use Prim.Native.Nat.{ℕ, suc, ◌+◌, ◌-◌, ◌≤◌, ◌<◌}
 use mathlib.Core.Bool.{Bool, true, false}
 use mathlib.Core.Path.{◌≡◌, refl, sym, ap, ◌∙◌}
 use native.Mathlib.Omega.{arith}
 use native.Mathlib.Nat.{zero-add}
 use native.Mathlib.Numerals.{add-one}
-use Rattle.laws.specs.Base.{if◌then◌else◌}
 use Rattle.laws.specs.Loops.{all_of, tally, run}
 
 -- ---- all of a range

@@ -1,11 +1,6 @@
--- Branching, and what the definitions use of lists. Nothing here is about the machine.
-use Rattle.std.specs.Prelude.{Bool, true, false, ◌||◌, List, [], ◌∷◌, ℕ, zero, suc}
+-- What the definitions use of lists. Nothing here is about the machine.
+use Rattle.std.specs.Prelude.{Bool, true, false, ◌||◌, if◌then◌else◌, List, [], ◌∷◌, ℕ, zero, suc}
 use Rattle.std.proofs.Math.Option.{Option, none, some}
-
-infix 10 if◌then◌else◌
-abbrev pub if◌then◌else◌ {ℓ} : {A : Type ℓ} → Bool → A → A → A
-if◌then◌else◌ true a b = a
-if◌then◌else◌ false a b = b
 
 module _ {A : Type 0} where
   -- the elements that pass the test, in their order

@@ -1,8 +1,7 @@
 -- What loops compute: a search, a count, and any number of turns.
-use Rattle.std.specs.Prelude.{Bool, true, false, ℕ, zero, suc, ◌+◌, ltb}
+use Rattle.std.specs.Prelude.{Bool, true, false, ℕ, zero, suc, ◌+◌, ltb, if◌then◌else◌}
 use Rattle.laws.specs.declared.Sought.{Sought}
 use Rattle.laws.specs.declared.Sought.TheVariants.{At, Nowhere}
-use Rattle.laws.specs.Base.{if◌then◌else◌}
 use Rattle.laws.specs.Pick.{pick}
 
 -- the first number from p on that passes the test, of n numbers; p + n if none does

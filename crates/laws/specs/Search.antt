@@ -1,6 +1,5 @@
 -- The oldest and the newest of the copies 1 .. n that pass a test; 0 if none does. And a table of a function's values.
-use Rattle.std.specs.Prelude.{Bool, List, [], ◌∷◌, ℕ, zero, suc, eqb}
-use Rattle.laws.specs.Base.{if◌then◌else◌}
+use Rattle.std.specs.Prelude.{Bool, List, [], ◌∷◌, ℕ, zero, suc, eqb, if◌then◌else◌}
 
 unfoldable pub oldest : (ℕ → Bool) → ℕ → ℕ
 oldest p zero = 0

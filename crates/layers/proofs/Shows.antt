@@ -1,4 +1,5 @@
 -- A sound history is what its mark shows.
+use Rattle.std.specs.Prelude.{if◌then◌else◌}
 use mathlib.Core.Path.{◌≡◌, refl, sym, ap, ◌∙◌}
 use mathlib.Core.Bool.{Bool, true, false, true≢false}
 use mathlib.Core.Logic.{◌≢◌, inl, inr}
@@ -7,7 +8,6 @@ use native.Mathlib.Omega.{arith}
 use native.Mathlib.Nat.{add-zero, add-suc}
 use lib.Dec.{leb, eqb}
 use borrow.Author.Tests.{ne_eqb}
-use Rattle.laws.specs.Base.{if◌then◌else◌}
 use Rattle.laws.specs.Search.{oldest}
 use Rattle.laws.proofs.Tests.{tests}
 use Rattle.laws.proofs.Search.{Oldest, never, since, Newest, none, until, oldest_spec, newest_spec}

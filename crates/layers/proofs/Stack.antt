@@ -1,11 +1,11 @@
 -- Every copy's word is read off the layers.
+use Rattle.std.specs.Prelude.{if◌then◌else◌}
 use mathlib.Core.Path.{◌≡◌, refl, sym, ◌∙◌}
 use mathlib.Core.Bool.{Bool, true, false, true≢false}
 use Prim.Native.Nat.{ℕ, ◌%◌, ◌≤◌, ◌<◌}
 use native.Mathlib.Omega.{arith}
 use lib.Dec.{leb, eqb}
 use borrow.Author.Tests.{eq-eqb, eqb-true}
-use Rattle.laws.specs.Base.{if◌then◌else◌}
 use Rattle.laws.specs.Search.{oldest, newest}
 use Rattle.laws.proofs.Tests.{tests}
 use Rattle.laws.proofs.Search.{Oldest, never, since, Newest, none, until, oldest_spec, newest_spec, oldest_same}

@@ -1,11 +1,11 @@
 -- The laws of words that turn: what was there before has not turned, and a word that stays or turns is not lost.
+use Rattle.std.specs.Prelude.{if◌then◌else◌}
 use mathlib.Core.Path.{◌≡◌, refl, sym, ap, ◌∙◌}
 use mathlib.Core.Bool.{Bool, true, false, not, true≢false}
 use mathlib.Core.Logic.{◌≢◌, inl, inr}
 use Prim.Native.Nat.{ℕ, ◌-◌, ◌%◌, ◌^◌}
 use lib.Dec.{eqb}
 use borrow.Author.Tests.{eq-eqb, ne_eqb, eqb-true}
-use Rattle.laws.specs.Base.{if◌then◌else◌}
 use Rattle.laws.proofs.Tests.{tests}
 use Rattle.words.specs.Fields.{bits, tag_of}
 use Rattle.layers.specs.Words.{filled, turned, old}

@@ -1,6 +1,5 @@
 -- One address: its word and two marks, and what each copy shows of it. Copies are numbered 1, 2, .. from the oldest; 0 is 'never'.
-use Rattle.std.specs.Prelude.{◌&&◌, ℕ, leb}
-use Rattle.laws.specs.Base.{if◌then◌else◌}
+use Rattle.std.specs.Prelude.{◌&&◌, ℕ, leb, if◌then◌else◌}
 use Rattle.layers.specs.Words.{old}
 
 -- word: as in the newest copy that holds its page; born: the first copy in which it is filled; turn: the first in which it has turned

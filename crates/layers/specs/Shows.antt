@@ -1,6 +1,5 @@
 -- One address through the copies: its history, the mark of a history, and when a history is sound.
-use Rattle.std.specs.Prelude.{◌≡◌, true, false, ◌≢◌, ◌⊎◌, ℕ, suc, ◌≤◌, ◌<◌, eqb}
-use Rattle.laws.specs.Base.{if◌then◌else◌}
+use Rattle.std.specs.Prelude.{◌≡◌, true, false, ◌≢◌, ◌⊎◌, ℕ, suc, ◌≤◌, ◌<◌, eqb, if◌then◌else◌}
 use Rattle.laws.specs.Search.{oldest, newest}
 use Rattle.layers.specs.Words.{filled, turned, old}
 use Rattle.layers.specs.Marks.{Mark, mark, view}

@@ -1,6 +1,5 @@
 -- All addresses through the copies: a stack of heaps, the one heap and the two marks a word that it gives, and what is read off them.
-use Rattle.std.specs.Prelude.{◌≡◌, true, ℕ, ◌%◌, ◌≤◌, ◌<◌, eqb}
-use Rattle.laws.specs.Base.{if◌then◌else◌}
+use Rattle.std.specs.Prelude.{◌≡◌, true, ℕ, ◌%◌, ◌≤◌, ◌<◌, eqb, if◌then◌else◌}
 use Rattle.layers.specs.Words.{filled, turned, link_address, next_address}
 use Rattle.layers.specs.Marks.{Mark, mark, view}
 use Rattle.layers.specs.Shows.{History, holder, mark_of, Unbroken, Grows}

@@ -1,6 +1,5 @@
 -- The words that turn while their region lives: an unbound variable becomes a bound one, a link gains a next page.
-use Rattle.std.specs.Prelude.{Bool, not, ℕ, ◌-◌, ◌*◌, ◌/◌, ◌%◌, ◌^◌, eqb}
-use Rattle.laws.specs.Base.{if◌then◌else◌}
+use Rattle.std.specs.Prelude.{Bool, not, ℕ, ◌-◌, ◌*◌, ◌/◌, ◌%◌, ◌^◌, eqb, if◌then◌else◌}
 use Rattle.words.specs.Fields.{bits, tag_of}
 
 abbrev pub filled : ℕ → Bool

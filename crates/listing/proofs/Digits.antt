@@ -1,4 +1,5 @@
 -- Unsigned decimal, digit by digit: a number of 64 bits has at most 20 digits.
+use Rattle.std.specs.Prelude.{if◌then◌else◌}
 use Prim.Native.Nat.{ℕ, zero, suc, ◌+◌, ◌/◌, ◌%◌, ◌^◌, ◌<◌, ◌≤◌}
 use mathlib.Core.Bool.{Bool, true, false}
 use mathlib.Core.List.{List, [], ◌∷◌, ◌++◌}
@@ -8,7 +9,6 @@ use borrow.Author.Tests.{lt-ltb, le-ltb}
 use lib.Dec.{ltb}
 use lib.ListN.{length}
 use lib.Seq.{append_snoc}
-use Rattle.laws.specs.Base.{if◌then◌else◌}
 use Rattle.machine.specs.Program.{digits, decimal}
 
 -- the text that stands behind the digits

@@ -1,4 +1,5 @@
 -- What is printed of a file, case by case; and its lines, one after another.
+use Rattle.std.specs.Prelude.{if◌then◌else◌}
 use Prim.Native.Nat.{ℕ, zero, suc, ◌*◌, ◌%◌, ◌<◌, ◌≤◌}
 use mathlib.Core.Bool.{Bool, true, false, ◌||◌}
 use mathlib.Core.List.{List, ◌++◌}
@@ -7,7 +8,6 @@ use native.Mathlib.Omega.{arith}
 use borrow.Author.Tests.{lt-ltb, le-ltb, eq-eqb, ne_eqb}
 use lib.Dec.{ltb}
 use lib.ListN.{length}
-use Rattle.laws.specs.Base.{if◌then◌else◌}
 use Rattle.laws.specs.Search.{tab}
 use Rattle.laws.proofs.Search.{length_tab}
 use Rattle.machine.specs.Copies.{document, opening}

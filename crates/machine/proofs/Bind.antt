@@ -1,4 +1,5 @@
 -- A variable is bound: the copy stays good, and its regions have grown.
+use Rattle.std.specs.Prelude.{if◌then◌else◌}
 use mathlib.Core.Path.{◌≡◌, refl, sym, ap, ◌∙◌, subst}
 use mathlib.Core.Bool.{Bool, true, false, true≢false}
 use mathlib.Core.Logic.{◌⊎◌, inl, inr, ◌≢◌}
@@ -9,7 +10,7 @@ use native.Mathlib.Omega.{arith}
 use lib.Dec.{eqb}
 use borrow.Author.Tests.{eq-eqb, eqb-true, le-ltb}
 use lib.ListN.{set, get_elem?, length-set}
-use Rattle.laws.specs.Base.{if◌then◌else◌, Each, Pairs}
+use Rattle.laws.specs.Base.{Each, Pairs}
 use Rattle.laws.proofs.Lists.{each_by, each_at, each_map, each_set, pairs_map, pairs_imp, mem_map}
 use Rattle.words.specs.declared.Ref.{Ref}
 use Rattle.words.specs.declared.Cell.{Cell}

@@ -1,4 +1,5 @@
 -- Ops 3, 4 and 5: a term is put into a region of the present copy, and a register refers to its first cell. The machine stays sound.
+use Rattle.std.specs.Prelude.{if◌then◌else◌}
 use mathlib.Core.Path.{◌≡◌, refl, sym, ap, ◌∙◌, subst}
 use mathlib.Core.Bool.{Bool, true, false}
 use mathlib.Core.Logic.{◌⊎◌, inl, inr, ◌≢◌}
@@ -12,7 +13,7 @@ use lib.Dec.{eqb}
 use lib.IntN.{ℤ}
 use borrow.Author.Tests.{eqb-true, eqb-false, eq-eqb, ne_eqb}
 use lib.ListN.{length, get_elem?}
-use Rattle.laws.specs.Base.{if◌then◌else◌, Each, Pairs}
+use Rattle.laws.specs.Base.{Each, Pairs}
 use Rattle.laws.proofs.Lists.{each_at, each_by, each_imp, pairs_imp, pairs_map, mem_map, map_mem, some_at, first_at}
 use Rattle.words.specs.declared.Ref.{Ref}
 use Rattle.words.specs.declared.Cell.{Cell}

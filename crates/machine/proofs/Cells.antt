@@ -1,4 +1,5 @@
 -- Reading and setting a cell of a copy: where a cell that is found stands, that it is in range, and what is read after one cell was set.
+use Rattle.std.specs.Prelude.{if◌then◌else◌}
 use mathlib.Core.Path.{◌≡◌, refl, sym, ap, ap₂, ◌∙◌, subst}
 use mathlib.Core.Bool.{Bool, true, false}
 use mathlib.Core.Logic.{◌⊎◌, inl, inr, ◌≢◌}
@@ -10,7 +11,7 @@ use native.Mathlib.Omega.{arith}
 use lib.Dec.{eqb}
 use borrow.Author.Tests.{eq-eqb, eqb-true, eqb-false}
 use lib.ListN.{length, set, get_elem?, length-set}
-use Rattle.laws.specs.Base.{if◌then◌else◌, some_of}
+use Rattle.laws.specs.Base.{some_of}
 use Rattle.laws.proofs.Lists.{each_at, some_yes, map_mem}
 use Rattle.words.specs.declared.Ref.{Ref}
 use Rattle.words.specs.declared.Cell.{Cell}

@@ -1,4 +1,5 @@
 -- The opening is sound; push, cut and backtrack keep a machine sound: they only take copies again or leave them out.
+use Rattle.std.specs.Prelude.{if◌then◌else◌}
 use mathlib.Core.Path.{◌≡◌, refl, subst}
 use mathlib.Core.Bool.{Bool, true, false}
 use mathlib.Core.Logic.{◌⊎◌, inl, inr}
@@ -10,7 +11,7 @@ use native.Mathlib.Omega.{arith}
 use lib.Dec.{leb}
 use borrow.Author.Tests.{leb-false}
 use lib.ListN.{length}
-use Rattle.laws.specs.Base.{if◌then◌else◌, Each, Pairs}
+use Rattle.laws.specs.Base.{Each, Pairs}
 use Rattle.laws.proofs.Lists.{each_replicate, each_of, each_at, each_by}
 use Rattle.words.specs.declared.Register.TheVariants as Reg
 use Rattle.words.specs.declared.Step.TheVariants.{PushChoice, Cut, Backtrack}

@@ -1,4 +1,5 @@
 -- Steps 7 and 8 keep a machine sound: they write registers only, with references that they found.
+use Rattle.std.specs.Prelude.{if◌then◌else◌}
 use mathlib.Core.Path.{◌≡◌, refl}
 use mathlib.Core.Bool.{Bool, true, false, ◌&&◌}
 use mathlib.Core.Logic.{inl}
@@ -6,7 +7,7 @@ use mathlib.Core.List.{List, [], ◌∷◌, Memᴰ}
 use mathlib.Core.Option.{Option, none, some}
 use Prim.Native.Nat.{ℕ, suc}
 use lib.Dec.{eqb}
-use Rattle.laws.specs.Base.{if◌then◌else◌, Each}
+use Rattle.laws.specs.Base.{Each}
 use Rattle.laws.proofs.Lists.{each_at, each_imp}
 use Rattle.words.specs.declared.Ref.{Ref}
 use Rattle.words.specs.declared.Cell.{Cell}

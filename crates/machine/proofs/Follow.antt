@@ -1,5 +1,6 @@
 -- Following references: the bound in `deref` is never met in a sound machine, what deref and a structure's arguments lead to is in range and
 -- names a cell, and an agenda of unification may be worked off in two parts.
+use Rattle.std.specs.Prelude.{if◌then◌else◌}
 use mathlib.Core.Path.{◌≡◌, refl, sym, ap, ◌∙◌, subst}
 use mathlib.Core.Bool.{Bool, true, false}
 use mathlib.Core.Logic.{◌⊎◌, inl, inr}
@@ -10,7 +11,7 @@ use native.Mathlib.Nat.{pow-le-pow_right}
 use native.Mathlib.Omega.{arith}
 use lib.Dec.{eqb, ltb}
 use borrow.Author.Tests.{eqb-true, ltb-true}
-use Rattle.laws.specs.Base.{if◌then◌else◌, Each}
+use Rattle.laws.specs.Base.{Each}
 use Rattle.laws.proofs.Lists.{each_at}
 use Rattle.words.specs.declared.Ref.{Ref}
 use Rattle.words.specs.declared.Cell.{Cell}

@@ -1,4 +1,5 @@
 -- Document 01's heap image, word by word: each word is the one in the newest copy that holds its page.
+use Rattle.std.specs.Prelude.{if◌then◌else◌}
 use mathlib.Core.Path.{◌≡◌, refl, sym, ap, ◌∙◌, subst}
 use mathlib.Core.Bool.{Bool, true, false, not, true≢false}
 use mathlib.Core.Logic.{◌≢◌, ◌⊎◌, inl, inr}
@@ -11,7 +12,7 @@ use lib.Dec.{leb, eqb}
 use lib.ListN.{length, get_or, replicate, length-append, length-map, length-replicate, get_or-append}
 use lib.Seq.{get_or-append-add}
 use borrow.Author.Tests.{ne_eqb}
-use Rattle.laws.specs.Base.{if◌then◌else◌, keep, from, Pairs}
+use Rattle.laws.specs.Base.{keep, from, Pairs}
 use Rattle.laws.specs.Search.{newest}
 use Rattle.laws.proofs.Tests.{tests}
 use Rattle.laws.proofs.Lists.{each_at, kept_at}

@@ -1,4 +1,5 @@
 -- Op 2: a region leaves the present copy, and the machine stays sound. What named it is dead.
+use Rattle.std.specs.Prelude.{if◌then◌else◌}
 use mathlib.Core.Path.{◌≡◌, refl, sym, ◌∙◌}
 use mathlib.Core.Bool.{Bool, true, false, not}
 use mathlib.Core.Logic.{◌≢◌, inl}
@@ -7,7 +8,7 @@ use mathlib.Core.Option.{Option, none, some, none-ne-some}
 use Prim.Native.Nat.{ℕ, ◌<◌}
 use lib.Dec.{eqb}
 use borrow.Author.Tests.{ne_eqb, eqb-true, eqb-false}
-use Rattle.laws.specs.Base.{if◌then◌else◌, keep}
+use Rattle.laws.specs.Base.{keep}
 use Rattle.laws.proofs.Lists.{each_at, each_by, pairs_keep, kept_at, some_yes, some_at, not_true}
 use Rattle.words.specs.declared.Ref.{Ref}
 use Rattle.words.specs.declared.Cell.{Cell}

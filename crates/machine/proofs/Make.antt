@@ -1,4 +1,5 @@
 -- Op 1: a region of the next stamp joins the present copy, and the machine stays sound. Its page was free, and it has no words yet.
+use Rattle.std.specs.Prelude.{if◌then◌else◌}
 use mathlib.Core.Path.{◌≡◌, refl, sym, ap, ◌∙◌, subst}
 use mathlib.Core.Bool.{Bool, true, false}
 use mathlib.Core.Logic.{◌⊎◌, inl, inr, ◌≢◌}
@@ -9,7 +10,6 @@ use Prim.Native.Nat.{ℕ, zero, suc, ◌/◌, ◌%◌, ◌≤◌, ◌<◌}
 use native.Mathlib.Omega.{arith}
 use lib.Dec.{eqb, leb}
 use borrow.Author.Tests.{eqb-true, eqb-false, leb-false}
-use Rattle.laws.specs.Base.{if◌then◌else◌}
 use Rattle.laws.proofs.Lists.{each_at, each_imp, each_append, pairs_append, some_yes, some_at}
 use Rattle.words.specs.declared.Ref.{Ref}
 use Rattle.words.specs.declared.Cell.{Cell}

@@ -1,4 +1,5 @@
 -- Copies by their number: 1 is the oldest, which is the last of the list.
+use Rattle.std.specs.Prelude.{if◌then◌else◌}
 use mathlib.Core.Path.{◌≡◌, refl, sym, ap, ◌∙◌}
 use mathlib.Core.Bool.{Bool, true, false}
 use mathlib.Core.List.{List, [], ◌∷◌, Memᴰ}
@@ -7,7 +8,7 @@ use native.Mathlib.Omega.{arith}
 use lib.Dec.{eqb}
 use lib.ListN.{length}
 use borrow.Author.Tests.{eq-eqb, ne_eqb}
-use Rattle.laws.specs.Base.{if◌then◌else◌, Pairs}
+use Rattle.laws.specs.Base.{Pairs}
 use Rattle.laws.proofs.Tests.{tests}
 use Rattle.laws.proofs.Lists.{each_at}
 use Rattle.machine.specs.Copies.{Copy, live}

@@ -1,4 +1,5 @@
 -- A term is put into a region: it goes behind the words of the newest page; where it does not fit there, an empty page joins first.
+use Rattle.std.specs.Prelude.{if◌then◌else◌}
 use mathlib.Core.Path.{◌≡◌, refl, sym, ap, ◌∙◌, subst}
 use mathlib.Core.Bool.{Bool, true, false, ◌||◌}
 use mathlib.Core.Logic.{◌⊎◌, inl, inr, ∥∥₁_elim}
@@ -11,7 +12,7 @@ use native.Mathlib.Omega.{arith}
 use lib.Dec.{leb, eqb}
 use borrow.Author.Tests.{eq-eqb, eqb-true, leb-true}
 use lib.ListN.{length, get_elem?, length-append}
-use Rattle.laws.specs.Base.{if◌then◌else◌, some_of, Each}
+use Rattle.laws.specs.Base.{some_of, Each}
 use Rattle.laws.proofs.Lists.{each_append, some_yes, mem_map}
 use Rattle.words.specs.declared.Cell.{Cell}
 use Rattle.words.specs.declared.Cell.TheVariants.{Unbound, Bound, Int, Head, Argument}

@@ -1,4 +1,5 @@
 -- The tables, word by word: the next stamp, the count of copies, a row of 32 register words for each copy, zeros.
+use Rattle.std.specs.Prelude.{if◌then◌else◌}
 use mathlib.Core.Path.{◌≡◌, refl, ap, ◌∙◌}
 use mathlib.Core.Bool.{Bool, true, false}
 use mathlib.Core.List.{List, [], ◌∷◌, ◌++◌}
@@ -7,7 +8,7 @@ use native.Mathlib.Omega.{arith}
 use lib.Dec.{eqb}
 use lib.ListN.{length, take, drop, replicate, length-append, length-map, length-replicate, length-drop}
 use lib.Seq.{take_all, take-append-le, drop-append-le, drop_at}
-use Rattle.laws.specs.Base.{if◌then◌else◌, Each}
+use Rattle.laws.specs.Base.{Each}
 use Rattle.laws.proofs.Tests.{tests}
 use Rattle.laws.proofs.Lists.{each_imp}
 use Rattle.words.specs.Words.{register_word}

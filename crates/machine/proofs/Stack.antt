@@ -1,4 +1,5 @@
 -- The copies of a sound machine are a sound stack of words, so the layers' laws are laws of the machine.
+use Rattle.std.specs.Prelude.{if◌then◌else◌}
 use mathlib.Core.Path.{◌≡◌, refl, sym, ap, ◌∙◌, subst}
 use mathlib.Core.Bool.{Bool, true, false, true≢false}
 use mathlib.Core.Logic.{◌≢◌, ◌⊎◌, inl, inr}
@@ -9,7 +10,6 @@ use native.Mathlib.Omega.{arith}
 use lib.Dec.{leb, eqb}
 use lib.ListN.{length}
 use borrow.Author.Tests.{eq-eqb, ne_eqb, eqb-true}
-use Rattle.laws.specs.Base.{if◌then◌else◌}
 use Rattle.laws.proofs.Tests.{tests}
 use Rattle.laws.proofs.Search.{Newest, none, until, newest_spec}
 use Rattle.words.specs.Words.{link_word}

@@ -1,4 +1,5 @@
 -- The words and marks that a machine lends are the layers of its copies, so they say each word of each copy.
+use Rattle.std.specs.Prelude.{if◌then◌else◌}
 use mathlib.Core.Path.{◌≡◌, refl, sym, ap, ◌∙◌}
 use mathlib.Core.Bool.{Bool, true, false}
 use mathlib.Core.Logic.{◌≢◌}
@@ -7,7 +8,6 @@ use native.Mathlib.Omega.{arith}
 use lib.Dec.{leb, eqb}
 use lib.ListN.{length, get_or, get_or-eq_default}
 use borrow.Author.Tests.{eqb-true}
-use Rattle.laws.specs.Base.{if◌then◌else◌}
 use Rattle.laws.specs.Search.{oldest, newest}
 use Rattle.laws.proofs.Tests.{tests}
 use Rattle.laws.proofs.Search.{oldest_same, newest_le, get_or_tab}

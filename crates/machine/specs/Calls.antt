@@ -1,6 +1,5 @@
 -- Document 01, "Answer words", its last paragraphs: what the four calls answer, and what they leave in everything lent.
-use Rattle.std.specs.Prelude.{◌≡◌, Bool, ◌&&◌, List, [], ◌++◌, map, ℕ, ◌+◌, ◌*◌, ◌/◌, ◌%◌, ◌<◌, leb, eqb, length, take, drop, ◌⊎◌}
-use Rattle.laws.specs.Base.{if◌then◌else◌}
+use Rattle.std.specs.Prelude.{◌≡◌, Bool, ◌&&◌, List, [], ◌++◌, map, ℕ, ◌+◌, ◌*◌, ◌/◌, ◌%◌, ◌<◌, leb, eqb, length, take, drop, ◌⊎◌, if◌then◌else◌}
 use Rattle.words.specs.Answers.{answer_word}
 use Rattle.machine.specs.declared.State.{State}
 use Rattle.machine.specs.Copies.{Machine, document, opening}

@@ -1,8 +1,8 @@
 -- Document 01, "Heap image": each held region appears with its words in the newest copy that has it, its link words follow that
 -- copy's list, and all else in the heap is zero.
-use Rattle.std.specs.Prelude.{List, [], ◌∷◌, ◌++◌, map, ℕ, ◌-◌, eqb, length, replicate}
+use Rattle.std.specs.Prelude.{List, [], ◌∷◌, ◌++◌, map, ℕ, ◌-◌, eqb, length, replicate, if◌then◌else◌}
 use Rattle.std.proofs.Math.Option.{Option, none, some}
-use Rattle.laws.specs.Base.{if◌then◌else◌, from}
+use Rattle.laws.specs.Base.{from}
 use Rattle.words.specs.Words.{cell_word, link_word}
 use Rattle.machine.specs.Copies.{Page, Region, Machine, copies, shown}
 

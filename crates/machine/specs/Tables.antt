@@ -1,7 +1,6 @@
 -- The tables' image: docs/LAYOUT.md in definitions. The machine determines every word.
 -- Copies are numbered 1 to n from the oldest; the present copy is n; 0 is 'never'.
-use Rattle.std.specs.Prelude.{Bool, not, List, [], ◌∷◌, ◌++◌, map, ℕ, suc, ◌-◌, ◌*◌, ◌/◌, ◌%◌, ◌^◌, eqb, length, get_or, replicate}
-use Rattle.laws.specs.Base.{if◌then◌else◌}
+use Rattle.std.specs.Prelude.{Bool, not, List, [], ◌∷◌, ◌++◌, map, ℕ, suc, ◌-◌, ◌*◌, ◌/◌, ◌%◌, ◌^◌, eqb, length, get_or, replicate, if◌then◌else◌}
 use Rattle.laws.specs.Search.{oldest, newest, tab}
 use Rattle.words.specs.Fields.{tag_of}
 use Rattle.words.specs.Words.{register_word}

@@ -1,4 +1,5 @@
 -- Pages past the end of a list; loops over the links or the words of pages.
+use Rattle.std.specs.Prelude.{if◌then◌else◌}
 use Prim.Native.Nat.{ℕ, zero, suc, ◌+◌, ◌*◌, ◌/◌, ◌<◌, ◌≤◌}
 use mathlib.Core.Bool.{Bool, true, false}
 use mathlib.Core.List.{List}
@@ -8,7 +9,6 @@ use borrow.Author.Rules.{rules}
 use borrow.Author.Tests.{eq-eqb}
 use lib.Dec.{eqb}
 use lib.ListN.{length, get_or, get_or-eq_default}
-use Rattle.laws.specs.Base.{if◌then◌else◌}
 use Rattle.laws.specs.Loops.{scan}
 use Rattle.laws.proofs.Rules.{laws, scans}
 use Rattle.laws.proofs.Via.{via_flag, test_yes, test_no}

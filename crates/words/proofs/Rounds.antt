@@ -1,5 +1,6 @@
 -- Heap words and register words are unpacked exactly: every value that fits comes back from its word, and a word that says a value is that value's word.
 -- So a word is refused exactly if it is the word of no value that fits.
+use Rattle.std.specs.Prelude.{if◌then◌else◌}
 use mathlib.Core.Path.{◌≡◌, refl, sym, ap, ◌∙◌, subst}
 use mathlib.Core.Bool.{Bool, true, false}
 use mathlib.Core.Logic.{◌≢◌}
@@ -7,7 +8,6 @@ use Prim.Native.Nat.{ℕ, ◌-◌, ◌≤◌}
 use native.Mathlib.Omega.{arith}
 use lib.Dec.{eqb}
 use borrow.Author.Tests.{eq-eqb, eqb-true, le-leb, leb-true}
-use Rattle.laws.specs.Base.{if◌then◌else◌}
 use Rattle.words.specs.declared.Cell.TheVariants.{Unbound, Bound, Int, Head, Argument}
 use Rattle.words.specs.declared.Link.TheVariants.{Last, Joined}
 use Rattle.words.specs.declared.Word.{Word}

@@ -1,4 +1,5 @@
 -- What a reader by a table and a test gives.
+use Rattle.std.specs.Prelude.{if◌then◌else◌}
 use mathlib.Core.Path.{◌≡◌, refl, sym, ◌∙◌}
 use mathlib.Core.Bool.{Bool, true, false, ◌&&◌}
 use mathlib.Core.Logic.{◌≢◌}
@@ -7,7 +8,6 @@ use native.Mathlib.Omega.{arith}
 use lib.Dec.{eqb}
 use borrow.Author.Rules.{rules}
 use borrow.Author.Tests.{eq-eqb, ne_eqb}
-use Rattle.laws.specs.Base.{if◌then◌else◌}
 
 -- one test in another is both
 pub if_both : {A : Type 0} (x y : A) (s t : Bool) → (if t then (if s then x else y) else y) ≡ (if s && t then x else y)

@@ -1,6 +1,5 @@
 -- What a word says, if that is the whole of it: packed again it is this word, so that no other bit is set.
-use Rattle.std.specs.Prelude.{◌&&◌, ℕ, ◌+◌, leb, eqb}
-use Rattle.laws.specs.Base.{if◌then◌else◌}
+use Rattle.std.specs.Prelude.{◌&&◌, ℕ, ◌+◌, leb, eqb, if◌then◌else◌}
 use Rattle.words.specs.declared.Cell.TheVariants.{Head}
 use Rattle.words.specs.declared.Word.{Word}
 use Rattle.words.specs.declared.Register.{Register}

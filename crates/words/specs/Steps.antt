@@ -1,6 +1,5 @@
 -- Document 01, "Steps": the 64-bit word of a step, and the step that a word says.
-use Rattle.std.specs.Prelude.{Bool, true, ◌&&◌, [], ◌∷◌, ℕ, ◌+◌, ◌*◌, ◌^◌, leb, eqb, get_or}
-use Rattle.laws.specs.Base.{if◌then◌else◌}
+use Rattle.std.specs.Prelude.{Bool, true, ◌&&◌, [], ◌∷◌, ℕ, ◌+◌, ◌*◌, ◌^◌, leb, eqb, get_or, if◌then◌else◌}
 use Rattle.words.specs.declared.Step.{Step}
 use Rattle.words.specs.declared.Step.TheVariants.{Refused, MakeRegion, KillRegion, MakeVar, Integer, Structure, Unify, Deref, Destruct, PushChoice, Cut, Backtrack}
 use Rattle.words.specs.Fields.{bits, tagged}
