@@ -1,5 +1,5 @@
 #!/usr/bin/env python3
-"""Brings the repository's own definitions and lemmas to today's spelling, after /opt/rattle/port/port.py.
+"""Brings the repository's own definitions and lemmas to today's spelling, after the kit's port.py.
 
     python3 tools/respell.py        run once, at the top of the repository
 
