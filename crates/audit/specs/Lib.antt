@@ -1,3 +1,4 @@
+pub mod Session
 pub mod Live
 pub mod Cells
 pub mod Links

@@ -1,101 +1,92 @@
 -- The pages: a free page is empty with its marks; the pages of a stamp are one chain from its first page to its newest.
-use Rattle.std.specs.Prelude.{Bool, true, false, List, ℕ, zero, suc, ◌+◌, ◌*◌, eqb, ltb, leb, get_or}
-use Rattle.laws.specs.declared.Sought.{Sought}
-use Rattle.laws.specs.declared.Sought.TheVariants.{At, Nowhere}
-use Rattle.laws.specs.Pick.{pick}
-use Rattle.laws.specs.Loops.{seek, all_of}
+use Rattle.std.specs.Prelude.{Bool, false, not, ◌&&◌, ◌||◌, List, ℕ, zero, suc, ◌+◌, ◌*◌, eqb, ltb, leb, get_or, Option, Some, None, if◌then◌else◌}
+use Rattle.laws.specs.Loops.{seek}
 use Rattle.words.specs.declared.Link.{Link}
-use Rattle.words.specs.declared.Link.TheVariants.{Last, Joined}
 use Rattle.words.specs.declared.Word.{Word}
 use Rattle.words.specs.Fields.{bits}
 use Rattle.words.specs.Words.{unpack_heap}
-use Rattle.store.specs.Pages.{link, newest_page}
-use Rattle.audit.specs.Live.{stamp_in, page_in, of_stamp, newest_copy}
+use Rattle.store.specs.Pages.{link, newest_page, of_stamp, on_page}
 use Rattle.audit.specs.declared.Home.{Home}
-use Rattle.audit.specs.Cells.{blank, cells_ok}
+use Rattle.audit.specs.Session.{Session}
+use Rattle.audit.specs.Live.{stamp_in, page_in, newest_copy}
+use Rattle.audit.specs.Cells.{all_blank, cells_ok}
 
 -- the page that was sought is this one
-unfoldable pub is_at : Sought → ℕ → Bool
-is_at (At q) p = eqb q p
-is_at Nowhere p = false
+abbrev pub is_at : Option ℕ → ℕ → Bool
+is_at (Some q) p = eqb q p
+is_at None p = false
 
 -- the link of page p: has it a next page, and which
-unfoldable pub has_next : List ℕ → ℕ → Bool
+abbrev pub has_next : List ℕ → ℕ → Bool
 has_next h p = eqb (bits 27 1 (link h p)) 1
 
-unfoldable pub next_page : List ℕ → ℕ → ℕ
+abbrev pub next_page : List ℕ → ℕ → ℕ
 next_page h p = bits 19 8 (link h p)
 
 -- page q is the next page of page p
-unfoldable pub names_next : List ℕ → ℕ → ℕ → Bool
-names_next h q p = pick (has_next h p) (eqb (next_page h p) q) false
+abbrev pub names_next : List ℕ → ℕ → ℕ → Bool
+names_next h q p = has_next h p && eqb (next_page h p) q
 
 -- from page p the links lead to a last page, over fewer than k links
 unfoldable pub ends_in : List ℕ → ℕ → ℕ → Bool
 ends_in h zero p = false
-ends_in h (suc k) p = pick (has_next h p) (ends_in h k (next_page h p)) true
+ends_in h (suc k) p = not (has_next h p) || ends_in h k (next_page h p)
 
--- the marks m and t of a held page's link, where n is the present copy: the copies that have the page are in order, and a region that is gone is in an
--- older copy
-unfoldable pub gone_ok : ℕ → ℕ → ℕ → Bool
-gone_ok n m t = pick (eqb t 0) true (pick (leb m t) (ltb t n) false)
+-- the marks of a held page's link, where n is the present copy: the copies that have the page are in order, and a region that is gone is in an older copy
+abbrev pub gone_ok : ℕ → ℕ → ℕ → Bool
+gone_ok n born turned = eqb turned 0 || (leb born turned && ltb turned n)
 
-unfoldable pub span_ok : List ℕ → List ℕ → ℕ → ℕ → Bool
-span_ok b u n p =
-    pick (eqb (get_or b (p * 16) 0) 0) false (pick (leb (get_or b (p * 16) 0) n) (gone_ok n (get_or b (p * 16) 0) (get_or u (p * 16) 0)) false)
+abbrev pub span_ok : Session → ℕ → Bool
+span_ok s p =
+    not (eqb (get_or s.born (p * 16) 0) 0)
+    && leb (get_or s.born (p * 16) 0) s.present
+    && gone_ok s.present (get_or s.born (p * 16) 0) (get_or s.turned (p * 16) 0)
 
--- page p is held by a region of stamp s
-unfoldable pub region_ok : List ℕ → List ℕ → ℕ → ℕ → ℕ → ℕ → Bool
-region_ok b u n next s p = pick (stamp_in next s) (span_ok b u n p) false
+-- page p is held by a region of a stamp
+abbrev pub region_ok : Session → ℕ → ℕ → Bool
+region_ok s stamp p = stamp_in s.next stamp && span_ok s p
 
 -- the marks of a page and of its next page, and the mark of the next page's first word: the same copies have both from when the next one joined on, and it
 -- joined with a term
-unfoldable pub together_ok : ℕ → ℕ → ℕ → ℕ → ℕ → Bool
-together_ok gone goes joined joins filled = pick (eqb goes gone) (pick (leb joined joins) (eqb filled joins) false) false
+abbrev pub marks_ok : Session → ℕ → ℕ → Bool
+marks_ok s p q =
+    eqb (get_or s.turned (q * 16) 0) (get_or s.turned (p * 16) 0)
+    && leb (get_or s.born (p * 16) 0) (get_or s.born (q * 16) 0)
+    && eqb (get_or s.born (q * 16 + 1) 0) (get_or s.born (q * 16) 0)
 
-unfoldable pub marks_ok : List ℕ → List ℕ → ℕ → ℕ → Bool
-marks_ok b u p q = together_ok (get_or u (p * 16) 0) (get_or u (q * 16) 0) (get_or b (p * 16) 0) (get_or b (q * 16) 0) (get_or b (q * 16 + 1) 0)
+-- the one page whose next page is q is p, and the links from there on come to an end
+unfoldable pub chain_ok : Session → ℕ → ℕ → Bool
+chain_ok s p q = is_at (seek (names_next s.heap q) s.pages s.first) p && ends_in s.heap (s.pages + 1) p
 
-module _ (first pages : ℕ) (h : List ℕ) where
-  -- the one page whose next page is q is p, and the links from there on come to an end
-  unfoldable pub chain_ok : ℕ → ℕ → Bool
-  chain_ok p q = pick (is_at (seek (names_next h q) pages first) p) (ends_in h (pages + 1) p) false
+-- page q is the next page of page p: of the same region, in the same copies from when it joined on, never empty, the next page of no other
+unfoldable pub follows_ok : Session → ℕ → ℕ → ℕ → Bool
+follows_ok s stamp p q = page_in s.first s.pages q && of_stamp s.heap stamp q && marks_ok s p q && chain_ok s p q
 
-  module _ (b u : List ℕ) where
-    -- page q is the next page of page p: of the same region, in the same copies from when it joined on, never empty, the next page of no other
-    unfoldable pub follows_ok : ℕ → ℕ → ℕ → Bool
-    follows_ok s p q = pick (page_in first pages q) (pick (of_stamp h s q) (pick (marks_ok b u p q) (chain_ok p q) false) false) false
+-- the last page of its region
+unfoldable pub last_ok : Session → ℕ → ℕ → Bool
+last_ok s stamp p = region_ok s stamp p && is_at (newest_page s.first s.pages s.heap stamp) p
 
-    module _ (n next : ℕ) where
-      -- the last page of its region
-      unfoldable pub last_ok : ℕ → ℕ → Bool
-      last_ok s p = pick (region_ok b u n next s p) (is_at (newest_page first pages h s) p) false
+-- it has a next page
+unfoldable pub joined_ok : Session → ℕ → ℕ → ℕ → Bool
+joined_ok s stamp p q = region_ok s stamp p && follows_ok s stamp p q
 
-      -- it has a next page
-      unfoldable pub joined_ok : ℕ → ℕ → ℕ → Bool
-      joined_ok s p q = pick (region_ok b u n next s p) (follows_ok s p q) false
-
-      unfoldable pub link_ok : Link → ℕ → Bool
-      link_ok (Last s) p = last_ok s p
-      link_ok (Joined s q) p = joined_ok s p q
+unfoldable pub link_ok : Session → Link → ℕ → Bool
+link_ok s l p = on_page l.next (λ q. joined_ok s l.stamp p q) (last_ok s l.stamp p)
 
 -- what is known of the cells of page p
-unfoldable pub home_of : List ℕ → List ℕ → ℕ → Link → ℕ → Home
-home_of b u n (Last s) p = record { stamp = s; newest = newest_copy u n p; full = newest_copy u n p }
-home_of b u n (Joined s q) p = record { stamp = s; newest = newest_copy u n p; full = get_or b (q * 16) 0 }
+unfoldable pub home_of : Session → Link → ℕ → Home
+home_of s l p =
+    record { stamp = l.stamp; newest = newest_copy s p; full = on_page l.next (λ q. get_or s.born (q * 16) 0) (newest_copy s p) }
 
-module _ (first pages : ℕ) (h b u : List ℕ) (n next : ℕ) where
-  -- a held page with its cells
-  unfoldable pub linked_ok : Link → ℕ → Bool
-  linked_ok l p =
-      pick (link_ok first pages h b u n next l p)
-      (cells_ok first pages h b u n next (home_of b u n l p) 15 (p * 16 + 1) 0 (get_or b (p * 16) 0)) false
+-- a held page with its cells
+unfoldable pub linked_ok : Session → Link → ℕ → Bool
+linked_ok s l p = link_ok s l p && cells_ok s (home_of s l p) 15 (p * 16 + 1) (record { more = 0; last = get_or s.born (p * 16) 0 })
 
-  unfoldable pub held_ok : Word → ℕ → Bool
-  held_ok Word.Empty p = false
-  held_ok (Word.Filled c) p = false
-  held_ok (Word.Linked l) p = linked_ok l p
-  held_ok Word.Broken p = false
+unfoldable pub held_ok : Session → Word → ℕ → Bool
+held_ok s Word.Empty p = false
+held_ok s (Word.Filled c) p = false
+held_ok s (Word.Linked l) p = linked_ok s l p
+held_ok s Word.Broken p = false
 
-  unfoldable pub page_ok : ℕ → Bool
-  page_ok p = pick (eqb (link h p) 0) (all_of (blank h b u) 16 (p * 16)) (held_ok (unpack_heap 12 (link h p)) p)
+unfoldable pub page_ok : Session → ℕ → Bool
+page_ok s p = if eqb (link s.heap p) 0 then all_blank s 16 (p * 16) else held_ok s (unpack_heap 12 (link s.heap p)) p

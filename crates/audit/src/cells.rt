@@ -1,279 +1,139 @@
 // The cells of a held page: whole terms, no gap before the fill's end, marks in order, references that name filled words in every copy.
 
 ghost use Rattle.std.specs.Prelude.{◌≡◌, ◌+◌, ◌-◌, ◌*◌};
-ghost use Rattle.laws.specs.Loops.{all_of};
-ghost use Rattle.audit.specs.Cells.{blank, more_after, fresh_ok, turned_ok, bound_ok, argument_ok, cell_ok, born_ok, filled_ok, rest_ok, cells_ok};
+ghost use Rattle.audit.specs.Session.{session_of, place};
+ghost use Rattle.audit.specs.Cells.{blank, all_blank, more_after, fresh_ok, turned_ok, bound_ok, argument_ok, cell_ok, born_ok, filled_ok, rest_ok, cells_ok};
 
-use crate::Home;
-use crate::live::{order_ok, ref_ok};
-use store::cells::{mark, word};
-use words::heap::unpack_heap;
+use crate::{CopyRange, Fill, Home, Place, Session};
 use words::{Cell, Ref, Word};
 
-fn blank(heap: &[u64], born: &[u8], turned: &[u8], a: usize) -> bool
-    ensures { result ≡ blank heap.now born.now turned.now a }
-{
-    if word(heap, a) == 0 {
-        if mark(born, a) == 0 {
-            mark(turned, a) == 0
-        } else {
-            false
-        }
-    } else {
-        false
-    }
-}
-
-// As many words of page p as `count` says, from word i on.
-pub fn all_blank(heap: &[u64], born: &[u8], turned: &[u8], count: u8, p: u32, i: u8) -> bool
-    ensures { result ≡ all_of (blank heap.now born.now turned.now) count (p * 16 + i) }
-{
-    let mut a = p as usize * 16 + i as usize;
-    let end = a + count as usize;
-    while a < end {
-        if blank(heap, born, turned, a) {
-            a += 1;
-        } else {
-            return false;
-        }
-    }
-    true
-}
-
-fn one_less(k: u8) -> u8
-    ensures { result ≡ k - 1 }
-{
-    if 0 < k { k - 1 } else { 0 }
-}
-
+#[tactic(auto, unfolding(crate::specs::Cells::more_after))]
 fn more_after(c: Cell, more: u8) -> u8
     ensures { result ≡ more_after c more }
 {
     match c {
-        Cell::Unbound => 0,
-        Cell::Bound(_) => 0,
-        Cell::Int(_) => 0,
+        Cell::Unbound | Cell::Bound(_) | Cell::Int(_) => 0,
         Cell::Head { functor: _, arity } => arity,
-        Cell::Argument(_) => one_less(more),
-    }
-}
-
-// A bound variable was bound in a copy that has it.
-fn turned_ok(home: Home, m: u8, t: u8, more: u8) -> bool
-    ensures { result ≡ turned_ok home m t more }
-{
-    if 0 < more {
-        false
-    } else {
-        if t < m { false } else { t <= home.newest }
-    }
-}
-
-fn bound_ok(
-    first: u16,
-    pages: u16,
-    heap: &[u64],
-    born: &[u8],
-    turned: &[u8],
-    n: u8,
-    next: u64,
-    home: Home,
-    r: Ref,
-    a: usize,
-    m: u8,
-    t: u8,
-    more: u8,
-) -> bool
-    ensures { result ≡ bound_ok first pages heap.now born.now turned.now n next home r a m t more }
-{
-    if turned_ok(home, m, t, more) {
-        if ref_ok(first, pages, heap, born, turned, n, next, r, t, home.newest) {
-            order_ok(
-                first,
-                pages,
-                heap,
-                born,
-                turned,
-                n,
-                home.stamp,
-                a,
-                r,
-                t,
-                home.newest,
-            )
-        } else {
-            false
-        }
-    } else {
-        false
-    }
-}
-
-// An argument is filled with its structure's head, in the same copy.
-fn argument_ok(
-    first: u16,
-    pages: u16,
-    heap: &[u64],
-    born: &[u8],
-    turned: &[u8],
-    n: u8,
-    next: u64,
-    home: Home,
-    r: Ref,
-    m: u8,
-    t: u8,
-    more: u8,
-    last: u8,
-) -> bool
-    ensures { result ≡ argument_ok first pages heap.now born.now turned.now n next home r m t more last }
-{
-    if more == 0 {
-        return false;
-    }
-    if 0 < t {
-        return false;
-    }
-    if m == last {
-        ref_ok(first, pages, heap, born, turned, n, next, r, m, home.newest)
-    } else {
-        false
+        Cell::Argument(_) => more.saturating_sub(1),
     }
 }
 
 // A word that starts a term and is no bound variable.
-fn fresh_ok(t: u8, more: u8) -> bool
-    ensures { result ≡ fresh_ok t more }
+fn fresh_ok(at: Place, more: u8) -> bool
+    ensures { result ≡ fresh_ok at more }
 {
-    if 0 < more { false } else { t == 0 }
+    more == 0 && at.turned == 0
 }
 
-fn cell_ok(
-    first: u16,
-    pages: u16,
-    heap: &[u64],
-    born: &[u8],
-    turned: &[u8],
-    n: u8,
-    next: u64,
-    home: Home,
-    c: Cell,
-    a: usize,
-    m: u8,
-    t: u8,
-    more: u8,
-    last: u8,
-) -> bool
-    ensures { result ≡ cell_ok first pages heap.now born.now turned.now n next home c a m t more last }
+fn born_ok(home: Home, at: Place, last: u8) -> bool
+    ensures { result ≡ born_ok home at last }
 {
-    match c {
-        Cell::Unbound => fresh_ok(t, more),
-        Cell::Bound(r) => bound_ok(
-            first, pages, heap, born, turned, n, next, home, r, a, m, t, more,
-        ),
-        Cell::Int(_) => fresh_ok(t, more),
-        Cell::Head {
-            functor: _,
-            arity: _,
-        } => fresh_ok(t, more),
-        Cell::Argument(r) => argument_ok(
-            first, pages, heap, born, turned, n, next, home, r, m, t, more, last,
-        ),
-    }
+    last <= at.born && at.born <= home.full
 }
 
-fn born_ok(home: Home, m: u8, last: u8) -> bool
-    ensures { result ≡ born_ok home m last }
+// A bound variable was bound in a copy that has it.
+fn turned_ok(home: Home, at: Place, more: u8) -> bool
+    ensures { result ≡ turned_ok home at more }
 {
-    if last <= m { m <= home.full } else { false }
+    more == 0 && at.born <= at.turned && at.turned <= home.newest
 }
 
-fn filled_ok(
-    first: u16,
-    pages: u16,
-    heap: &[u64],
-    born: &[u8],
-    turned: &[u8],
-    n: u8,
-    next: u64,
-    home: Home,
-    c: Cell,
-    a: usize,
-    more: u8,
-    last: u8,
-) -> bool
-    ensures { result ≡ filled_ok first pages heap.now born.now turned.now n next home c a more last }
-{
-    let m = mark(born, a);
-    let t = mark(turned, a);
-    if born_ok(home, m, last) {
-        cell_ok(
-            first, pages, heap, born, turned, n, next, home, c, a, m, t, more, last,
-        )
-    } else {
-        false
-    }
-}
-
-fn rest_ok(heap: &[u64], born: &[u8], turned: &[u8], more: u8, count: u8, p: u32, i: u8) -> bool
-    ensures { result ≡ rest_ok heap.now born.now turned.now more count (p * 16 + i) }
-{
-    if 0 < more {
-        false
-    } else {
-        all_blank(heap, born, turned, count, p, i)
-    }
-}
-
-// The words of page p from word i on, with `more` arguments still to come after the word before, which was filled in copy `last`.
-pub fn cells_ok(
-    first: u16,
-    pages: u16,
-    heap: &[u64],
-    born: &[u8],
-    turned: &[u8],
-    n: u8,
-    next: u64,
-    home: Home,
-    p: u32,
-    i: u8,
-    more: u8,
-    last: u8,
-) -> bool
-    ensures { result ≡ cells_ok first pages heap.now born.now turned.now n next home (16 - i) (p * 16 + i) more last }
-{
-    if 16 <= i {
-        return more == 0;
-    }
-    let a = p as usize * 16 + i as usize;
-    let w = word(heap, a);
-    if w == 0 {
-        return rest_ok(heap, born, turned, more, 16 - i, p, i);
-    }
-    match unpack_heap(w) {
-        Word::Empty => false,
-        Word::Filled(c) => {
-            if filled_ok(
-                first, pages, heap, born, turned, n, next, home, c, a, more, last,
-            ) {
-                cells_ok(
-                    first,
-                    pages,
-                    heap,
-                    born,
-                    turned,
-                    n,
-                    next,
-                    home,
-                    p,
-                    i + 1,
-                    more_after(c, more),
-                    mark(born, a),
-                )
-            } else {
-                false
-            }
+impl<'a> Session<'a> {
+    fn place(&self, a: usize) -> Place
+        ensures { result ≡ place (session_of self.now) a }
+    {
+        Place {
+            address: a,
+            born: self.view.born(a),
+            turned: self.view.turned(a),
         }
-        Word::Linked(_) => false,
-        Word::Broken => false,
+    }
+
+    fn blank(&self, a: usize) -> bool
+        ensures { result ≡ blank (session_of self.now) a }
+    {
+        self.view.word(a) == 0 && self.view.born(a) == 0 && self.view.turned(a) == 0
+    }
+
+    // As many words of page p as `count` says, from word i on.
+    #[tactic(auto, unfolding(crate::specs::Cells::all_blank))]
+    pub fn all_blank(&self, count: u8, p: u32, i: u8) -> bool
+        ensures { result ≡ all_blank (session_of self.now) count (p * 16 + i) }
+    {
+        let a = p as usize * 16 + i as usize;
+        (a..a + count as usize).all(|a| self.blank(a))
+    }
+
+    #[tactic(auto, unfolding(crate::specs::Cells::bound_ok))]
+    fn bound_ok(&self, home: Home, r: Ref, at: Place, more: u8) -> bool
+        ensures { result ≡ bound_ok (session_of self.now) home r at more }
+    {
+        let range = CopyRange {
+            since: at.turned,
+            upto: home.newest,
+        };
+        turned_ok(home, at, more)
+            && self.ref_ok(r, range)
+            && self.order_ok(home.stamp, at.address, r, range)
+    }
+
+    // An argument is filled with its structure's head, in the same copy.
+    #[tactic(auto, unfolding(crate::specs::Cells::argument_ok))]
+    fn argument_ok(&self, home: Home, r: Ref, at: Place, fill: Fill) -> bool
+        ensures { result ≡ argument_ok (session_of self.now) home r at fill }
+    {
+        let range = CopyRange {
+            since: at.born,
+            upto: home.newest,
+        };
+        fill.more != 0 && at.turned == 0 && at.born == fill.last && self.ref_ok(r, range)
+    }
+
+    #[tactic(auto, unfolding(crate::specs::Cells::cell_ok))]
+    fn cell_ok(&self, home: Home, c: Cell, at: Place, fill: Fill) -> bool
+        ensures { result ≡ cell_ok (session_of self.now) home c at fill }
+    {
+        match c {
+            Cell::Unbound | Cell::Int(_) | Cell::Head { .. } => fresh_ok(at, fill.more),
+            Cell::Bound(r) => self.bound_ok(home, r, at, fill.more),
+            Cell::Argument(r) => self.argument_ok(home, r, at, fill),
+        }
+    }
+
+    #[tactic(auto, unfolding(crate::specs::Cells::filled_ok))]
+    fn filled_ok(&self, home: Home, c: Cell, at: Place, fill: Fill) -> bool
+        ensures { result ≡ filled_ok (session_of self.now) home c at fill }
+    {
+        born_ok(home, at, fill.last) && self.cell_ok(home, c, at, fill)
+    }
+
+    #[tactic(auto, unfolding(crate::specs::Cells::rest_ok))]
+    fn rest_ok(&self, more: u8, count: u8, p: u32, i: u8) -> bool
+        ensures { result ≡ rest_ok (session_of self.now) more count (p * 16 + i) }
+    {
+        more == 0 && self.all_blank(count, p, i)
+    }
+
+    // The words of page p from word i on.
+    #[tactic(auto, unfolding(crate::specs::Cells::cells_ok))]
+    pub fn cells_ok(&self, home: Home, p: u32, i: u8, fill: Fill) -> bool
+        ensures { result ≡ cells_ok (session_of self.now) home (16 - i) (p * 16 + i) fill }
+    {
+        if 16 <= i {
+            return fill.more == 0;
+        }
+        let at = self.place(p as usize * 16 + i as usize);
+        let w = self.view.word(at.address);
+        if w == 0 {
+            return self.rest_ok(fill.more, 16 - i, p, i);
+        }
+        let Word::Filled(c) = Word::from(w) else {
+            return false;
+        };
+        let after = Fill {
+            more: more_after(c, fill.more),
+            last: at.born,
+        };
+        self.filled_ok(home, c, at, fill) && self.cells_ok(home, p, i + 1, after)
     }
 }

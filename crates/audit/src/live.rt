@@ -1,19 +1,17 @@
 // In which copies a region is live, and what a reference names in them, read off the marks.
 
 ghost use Rattle.std.specs.Prelude.{◌≡◌};
+ghost use Rattle.audit.specs.Session.{session_of};
 ghost use Rattle.audit.specs.Live.{
   stamp_in,
   page_in,
   address_in,
   ref_in,
-  of_stamp,
   newest_copy,
   since_at,
   seen_at,
   seen_before,
-  tag_at,
-  starts,
-  is_variable,
+  has_tag_up_to,
   named_since,
   absent_before,
   ref_ok,
@@ -21,251 +19,125 @@ ghost use Rattle.audit.specs.Live.{
   order_ok,
 };
 
-use store::{cells, pages};
+use crate::{CopyRange, Session};
 use words::Ref;
-use words::heap::{STAMP_AT, TAG_AT};
+use words::heap::tag;
 
-// tag 6 above the 32 bits of a stamp
-const LINK_TAG: u64 = 25769803776;
+// No copy has a number as large as this.
+const NEVER: u16 = 256;
 
-pub fn stamp_in(next: u64, s: u32) -> bool
-    ensures { result ≡ stamp_in next s }
+// A word of tag 1 or 2 is a variable, one of tag 1 to 4 starts a term.
+const LAST_OF_VARIABLES: u8 = 2;
+
+const LAST_OF_STARTS: u8 = 4;
+
+#[tactic(auto, unfolding(crate::specs::Live::younger_than))]
+fn younger_than(stamp: u32, a: usize, r: Ref) -> bool
+    ensures { result ≡ younger_than stamp a r }
 {
-    if 0 < s { (s as u64) < next } else { false }
+    (r.stamp, r.address as usize) < (stamp, a)
 }
 
-pub fn page_in(first: u16, pages: u16, p: u16) -> bool
-    ensures { result ≡ page_in first pages p }
-{
-    if first <= p {
-        (p as u32) < first as u32 + pages as u32
-    } else {
-        false
+impl<'a> Session<'a> {
+    pub fn stamp_in(&self, stamp: u32) -> bool
+        ensures { result ≡ stamp_in self.now.next stamp }
+    {
+        0 < stamp && (stamp as u64) < self.next
     }
-}
 
-fn address_in(first: u16, pages: u16, a: u16) -> bool
-    ensures { result ≡ address_in first pages a }
-{
-    if page_in(first, pages, a / 16) {
-        0 < a % 16
-    } else {
-        false
+    pub fn page_in(&self, p: u16) -> bool
+        ensures { result ≡ page_in self.now.view.pages.first self.now.view.pages.count p }
+    {
+        self.view.pages.numbers().contains(&(p as usize))
     }
-}
 
-fn ref_in(first: u16, pages: u16, next: u64, r: Ref) -> bool
-    ensures { result ≡ ref_in first pages next r }
-{
-    if stamp_in(next, r.stamp) {
-        address_in(first, pages, r.address)
-    } else {
-        false
+    fn address_in(&self, a: u16) -> bool
+        ensures { result ≡ address_in self.now.view.pages.first self.now.view.pages.count a }
+    {
+        self.page_in(a / 16) && 0 < a % 16
     }
-}
 
-// The tag and the stamp of page p's link, compared as one number.
-pub fn of_stamp(heap: &[u64], s: u32, p: usize) -> bool
-    ensures { result ≡ of_stamp heap.now s p }
-{
-    pages::link(heap, p) / STAMP_AT == LINK_TAG + s as u64
-}
+    fn ref_in(&self, r: Ref) -> bool
+        ensures { result ≡ ref_in (session_of self.now) r }
+    {
+        self.stamp_in(r.stamp) && self.address_in(r.address)
+    }
 
-pub fn newest_copy(turned: &[u8], n: u8, p: usize) -> u8
-    ensures { result ≡ newest_copy turned.now n p }
-{
-    let m = pages::link_mark(turned, p);
-    if m == 0 { n } else { m }
-}
+    #[tactic(auto, unfolding(crate::specs::Live::newest_copy))]
+    pub fn newest_copy(&self, p: usize) -> u8
+        ensures { result ≡ newest_copy (session_of self.now) p }
+    {
+        let m = self.view.link_turned(p);
+        if m == 0 { self.present } else { m }
+    }
 
-fn since_at(born: &[u8], since: u8, p: usize) -> u8
-    ensures { result ≡ since_at born.now since p }
-{
-    let m = pages::link_mark(born, p);
-    if m < since { since } else { m }
-}
+    #[tactic(auto, unfolding(crate::specs::Live::since_at))]
+    fn since_at(&self, since: u8, p: usize) -> u8
+        ensures { result ≡ since_at (session_of self.now) since p }
+    {
+        since.max(self.view.link_born(p))
+    }
 
-fn seen_at(
-    heap: &[u64],
-    born: &[u8],
-    turned: &[u8],
-    n: u8,
-    s: u32,
-    since: u8,
-    upto: u8,
-    bound: u16,
-    p: usize,
-) -> bool
-    ensures { result ≡ seen_at heap.now born.now turned.now n s since upto bound p }
-{
-    if of_stamp(heap, s, p) {
-        let c = since_at(born, since, p);
-        if (c as u16) < bound {
-            if c <= upto {
-                c <= newest_copy(turned, n, p)
-            } else {
-                false
-            }
+    #[tactic(auto, unfolding(crate::specs::Live::seen_at))]
+    fn seen_at(&self, stamp: u32, range: CopyRange, bound: u16, p: usize) -> bool
+        ensures { result ≡ seen_at (session_of self.now) stamp range bound p }
+    {
+        let c = self.since_at(range.since, p);
+        self.view.of_stamp(p, stamp)
+            && (c as u16) < bound
+            && c <= range.upto
+            && c <= self.newest_copy(p)
+    }
+
+    #[tactic(auto, unfolding(crate::specs::Live::seen_before))]
+    fn seen_before(&self, stamp: u32, range: CopyRange, bound: u16) -> bool
+        ensures { result ≡ seen_before (session_of self.now) stamp range bound }
+    {
+        self.view
+            .pages
+            .numbers()
+            .any(|p| self.seen_at(stamp, range, bound, p))
+    }
+
+    // Has the word at address a a tag from 1 to `last`?
+    fn has_tag_up_to(&self, last: u8, a: usize) -> bool
+        ensures { result ≡ has_tag_up_to last self.now.view.words.now a }
+    {
+        (1..=last).contains(&tag(self.view.word(a)))
+    }
+
+    #[tactic(auto, unfolding(crate::specs::Live::named_since))]
+    fn named_since(&self, r: Ref) -> u16
+        ensures { result ≡ named_since (session_of self.now) r }
+    {
+        let a = r.address as usize;
+        if self.view.of_stamp(a / 16, r.stamp) && self.has_tag_up_to(LAST_OF_STARTS, a) {
+            self.view.born(a) as u16
         } else {
-            false
-        }
-    } else {
-        false
-    }
-}
-
-fn seen_before(
-    first: u16,
-    pages: u16,
-    heap: &[u64],
-    born: &[u8],
-    turned: &[u8],
-    n: u8,
-    s: u32,
-    since: u8,
-    upto: u8,
-    bound: u16,
-) -> bool
-    ensures { result ≡ seen_before first pages heap.now born.now turned.now n s since upto bound }
-{
-    let mut p = first as usize;
-    let end = p + pages as usize;
-    while p < end {
-        if seen_at(heap, born, turned, n, s, since, upto, bound, p) {
-            return true;
-        }
-        p += 1;
-    }
-    false
-}
-
-fn tag_at(heap: &[u64], a: usize) -> u64
-    ensures { result ≡ tag_at heap.now a }
-{
-    cells::word(heap, a) / TAG_AT
-}
-
-fn starts(heap: &[u64], a: usize) -> bool
-    ensures { result ≡ starts heap.now a }
-{
-    let t = tag_at(heap, a);
-    if t < 1 { false } else { t <= 4 }
-}
-
-fn is_variable(heap: &[u64], a: usize) -> bool
-    ensures { result ≡ is_variable heap.now a }
-{
-    let t = tag_at(heap, a);
-    if t < 1 { false } else { t <= 2 }
-}
-
-// 256 is later than any copy's number.
-fn named_since(heap: &[u64], born: &[u8], r: Ref) -> u16
-    ensures { result ≡ named_since heap.now born.now r }
-{
-    let a = r.address as usize;
-    if of_stamp(heap, r.stamp, a / 16) {
-        if starts(heap, a) {
-            cells::mark(born, a) as u16
-        } else {
-            256
-        }
-    } else {
-        256
-    }
-}
-
-fn absent_before(
-    first: u16,
-    pages: u16,
-    heap: &[u64],
-    born: &[u8],
-    turned: &[u8],
-    n: u8,
-    s: u32,
-    since: u8,
-    upto: u8,
-    bound: u16,
-) -> bool
-    ensures { result ≡ absent_before first pages heap.now born.now turned.now n s since upto bound }
-{
-    if bound <= since as u16 {
-        true
-    } else {
-        if seen_before(first, pages, heap, born, turned, n, s, since, upto, bound) {
-            false
-        } else {
-            true
+            NEVER
         }
     }
-}
 
-pub fn ref_ok(
-    first: u16,
-    pages: u16,
-    heap: &[u64],
-    born: &[u8],
-    turned: &[u8],
-    n: u8,
-    next: u64,
-    r: Ref,
-    since: u8,
-    upto: u8,
-) -> bool
-    ensures { result ≡ ref_ok first pages heap.now born.now turned.now n next r since upto }
-{
-    if ref_in(first, pages, next, r) {
-        absent_before(
-            first,
-            pages,
-            heap,
-            born,
-            turned,
-            n,
-            r.stamp,
-            since,
-            upto,
-            named_since(heap, born, r),
-        )
-    } else {
-        false
+    #[tactic(auto, unfolding(crate::specs::Live::absent_before))]
+    fn absent_before(&self, stamp: u32, range: CopyRange, bound: u16) -> bool
+        ensures { result ≡ absent_before (session_of self.now) stamp range bound }
+    {
+        bound <= range.since as u16 || !self.seen_before(stamp, range, bound)
     }
-}
 
-fn younger_than(s: u32, a: usize, r: Ref) -> bool
-    ensures { result ≡ younger_than s a r }
-{
-    if s == r.stamp {
-        (r.address as usize) < a
-    } else {
-        r.stamp < s
+    #[tactic(auto, unfolding(crate::specs::Live::ref_ok))]
+    pub fn ref_ok(&self, r: Ref, range: CopyRange) -> bool
+        ensures { result ≡ ref_ok (session_of self.now) r range }
+    {
+        self.ref_in(r) && self.absent_before(r.stamp, range, self.named_since(r))
     }
-}
 
-pub fn order_ok(
-    first: u16,
-    pages: u16,
-    heap: &[u64],
-    born: &[u8],
-    turned: &[u8],
-    n: u8,
-    s: u32,
-    a: usize,
-    r: Ref,
-    since: u8,
-    upto: u8,
-) -> bool
-    ensures { result ≡ order_ok first pages heap.now born.now turned.now n s a r since upto }
-{
-    if is_variable(heap, r.address as usize) {
-        if younger_than(s, a, r) {
-            true
-        } else {
-            absent_before(
-                first, pages, heap, born, turned, n, r.stamp, since, upto, 256,
-            )
-        }
-    } else {
-        true
+    #[tactic(auto, unfolding(crate::specs::Live::order_ok))]
+    pub fn order_ok(&self, stamp: u32, a: usize, r: Ref, range: CopyRange) -> bool
+        ensures { result ≡ order_ok (session_of self.now) stamp a r range }
+    {
+        !self.has_tag_up_to(LAST_OF_VARIABLES, r.address as usize)
+            || younger_than(stamp, a, r)
+            || self.absent_before(r.stamp, range, NEVER)
     }
 }

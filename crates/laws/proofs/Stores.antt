@@ -1,5 +1,6 @@
 -- What a number of turns leaves of what they do not touch, and of what one turn alone touches. Then loops of stores: each turn stores at an address of its own,
 -- or skips.
+use Rattle.std.specs.Prelude.{if◌then◌else◌}
 use mathlib.Core.Bool.{Bool, true, false}
 use mathlib.Core.List.{List}
 use mathlib.Core.Logic.{⊎_elim}
@@ -9,7 +10,6 @@ use native.Mathlib.Nat.{eq-or-lt_of_le, le_of_suc-le-suc}
 use native.Mathlib.Omega.{arith}
 use lib.ListN.{length, get_or, set, length-set}
 use lib.Seq.{get_or-set_same, get_or-set_other}
-use Rattle.laws.specs.Pick.{pick}
 use Rattle.laws.specs.Loops.{run}
 
 module _ {A B : Type 0} (f : ℕ → A → A) (g : A → B) where
@@ -29,27 +29,24 @@ module _ {A B : Type 0} (f : ℕ → A → A) (g : A → B) where
 -- one list l of the state: turn i stores v i at address at i, unless it skips
 pub record Stores {A : Type 0} (l : A → List ℕ) (f : ℕ → A → A) (at : ℕ → ℕ) (skip : ℕ → Bool) (v : ℕ → A → ℕ) : Type 0 where
   pub apart : (i n : ℕ) → at i ≡ at n → i ≡ n
-  pub turn : (i : ℕ) (x : A) → l (f i x) ≡ pick (skip i) (l x) (set (l x) (at i) (v i x))
+  pub turn : (i : ℕ) (x : A) → l (f i x) ≡ (if skip i then l x else set (l x) (at i) (v i x))
 
 module _ {A : Type 0} (l : A → List ℕ) (f : ℕ → A → A) (at : ℕ → ℕ) (skip : ℕ → Bool) (v : ℕ → A → ℕ) (w : Stores l f at skip v) where
   turn_length : (i : ℕ) (x : A) → length (l (f i x)) ≡ length (l x)
-  unfolding pick
   turn_length i x = ap length (w.turn i x) ∙ by (skip i)
     where
-      by : (b : Bool) → length (pick b (l x) (set (l x) (at i) (v i x))) ≡ length (l x)
+      by : (b : Bool) → length (if b then l x else set (l x) (at i) (v i x)) ≡ length (l x)
       by true = refl
       by false = length-set (l x) (at i) (v i x)
 
   turn_elsewhere : (i : ℕ) (x : A) (a : ℕ) → (skip i ≡ false → at i ≡ a → ⊥) → get_or (l (f i x)) a 0 ≡ get_or (l x) a 0
-  unfolding pick
   turn_elsewhere i x a h = ap (λ (t : List ℕ). get_or t a 0) (w.turn i x) ∙ by (skip i) refl
     where
-      by : (b : Bool) → skip i ≡ b → get_or (pick b (l x) (set (l x) (at i) (v i x))) a 0 ≡ get_or (l x) a 0
+      by : (b : Bool) → skip i ≡ b → get_or (if b then l x else set (l x) (at i) (v i x)) a 0 ≡ get_or (l x) a 0
       by true e = refl
       by false e = get_or-set_other (l x) (at i) a (v i x) 0 (λ q. h e (sym q))
 
   turn_there : (i : ℕ) (x : A) → skip i ≡ false → at i < length (l x) → get_or (l (f i x)) (at i) 0 ≡ v i x
-  unfolding pick
   turn_there i x e h = ap (λ (t : List ℕ). get_or t (at i) 0) (w.turn i x) ∙ rw e (get_or-set_same (l x) (at i) (v i x) 0 h)
 
   pub stores_length : (k : ℕ) (s : A) → length (l (run f k s)) ≡ length (l s)

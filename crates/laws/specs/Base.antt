@@ -1,6 +1,5 @@
 -- What the definitions use of lists. Nothing here is about the machine.
-use Rattle.std.specs.Prelude.{Bool, true, false, ◌||◌, if◌then◌else◌, List, [], ◌∷◌, ℕ, zero, suc}
-use Rattle.std.proofs.Math.Option.{Option, none, some}
+use Rattle.std.specs.Prelude.{Bool, false, ◌||◌, if◌then◌else◌, List, [], ◌∷◌, ℕ, zero, suc, Option, Some, None}
 
 module _ {A : Type 0} where
   -- the elements that pass the test, in their order
@@ -10,8 +9,8 @@ module _ {A : Type 0} where
 
   -- the first element that passes the test
   abbrev pub first : (A → Bool) → List A → Option A
-  first f [] = none
-  first f (x ∷ xs) = if f x then some x else first f xs
+  first f [] = None
+  first f (x ∷ xs) = if f x then Some x else first f xs
 
   -- some element passes the test
   abbrev pub some_of : (A → Bool) → List A → Bool

@@ -1,4 +1,3 @@
 pub mod Base
 pub mod Search
-pub mod Pick
 pub mod Loops

@@ -1,10 +1,3 @@
 // Laws that know nothing of the machine: lists, tests, searches, and how code is proved. They stand in specs/ and proofs/.
 
 #![tactic(auto)]
-
-// Where a search ends.
-#[derive(Clone, Copy)]
-pub enum Sought {
-    At(usize),
-    Nowhere,
-}

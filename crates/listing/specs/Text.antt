@@ -1,7 +1,6 @@
 -- Text that is written into a lent buffer, byte after byte. Bytes past the buffer's end are dropped, and the place stays at the end.
-use Rattle.std.specs.Prelude.{List, [], ◌∷◌, ◌++◌, ℕ, ◌+◌, ltb, length, set}
-use Rattle.laws.specs.Pick.{pick}
-use Rattle.words.specs.declared.Answer.{Answer}
+use Rattle.std.specs.Prelude.{◌≡◌, List, [], ◌∷◌, ◌++◌, ℕ, ◌+◌, ltb, length, set, if◌then◌else◌}
+use Rattle.listing.specs.declared.printing.Lines.{Lines}
 use Rattle.machine.specs.Program.{decimal, space, line_feed}
 
 -- the buffer, and where the next byte goes
@@ -12,17 +11,21 @@ pub record Written : Type 0 where
 abbrev pub written : List ℕ → ℕ → Written
 written l p = record { bytes = l; at = p }
 
+-- what the code's buffer holds
+abbrev pub written_of : Lines → Written
+written_of l = written l.bytes.now l.at
+
+-- the same loan: what is written to it the lender sees when the loan ends
+abbrev pub SameLoan : Lines → Lines → Type 0
+SameLoan l l' = l'.bytes.ghost_name ≡ l.bytes.ghost_name
+
 unfoldable pub write : ℕ → Written → Written
-write b w = pick (ltb w.at (length w.bytes)) (written (set w.bytes w.at b) (w.at + 1)) w
+write b w = if ltb w.at (length w.bytes) then written (set w.bytes w.at b) (w.at + 1) else w
 
 -- a text, from its first byte on
 unfoldable pub writes : List ℕ → Written → Written
 writes [] w = w
 writes (b ∷ bs) w = writes bs (write b w)
-
--- the line of a step up to its kind
-unfoldable pub step_start : ℕ → Answer → List ℕ
-step_start n a = decimal n ++ (space ∷ decimal a.status) ++ (space ∷ decimal a.kind)
 
 -- 'pages P stamp S'
 unfoldable pub opening_text : ℕ → ℕ → List ℕ

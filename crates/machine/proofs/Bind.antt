@@ -1,15 +1,15 @@
 -- A variable is bound: the copy stays good, and its regions have grown.
-use Rattle.std.specs.Prelude.{if◌then◌else◌}
+use Rattle.std.specs.Prelude.{if◌then◌else◌, Some, slice_get}
 use mathlib.Core.Path.{◌≡◌, refl, sym, ap, ◌∙◌, subst}
 use mathlib.Core.Bool.{Bool, true, false, true≢false}
 use mathlib.Core.Logic.{◌⊎◌, inl, inr, ◌≢◌}
 use mathlib.Core.List.{List, [], ◌∷◌, map, Memᴰ}
-use mathlib.Core.Option.{some, none-ne-some, some-injective}
+use Rattle.laws.proofs.Options.{None-ne-Some, Some-injective}
 use Prim.Native.Nat.{ℕ, zero, suc, ◌-◌, ◌/◌, ◌%◌, ◌<◌}
 use native.Mathlib.Omega.{arith}
 use lib.Dec.{eqb}
 use borrow.Author.Tests.{eq-eqb, eqb-true, le-ltb}
-use lib.ListN.{set, get_elem?, length-set}
+use lib.ListN.{set, length-set}
 use Rattle.laws.specs.Base.{Each, Pairs}
 use Rattle.laws.proofs.Lists.{each_by, each_at, each_map, each_set, pairs_map, pairs_imp, mem_map}
 use Rattle.words.specs.declared.Ref.{Ref}
@@ -47,28 +47,28 @@ module _ (s : Ref) where
   whole_here zero v ws e h = rw e at h
   whole_here (suc more) v ws e h = rw e at h
 
-  whole_bound : (ws : List Cell) (i : ℕ) → get_elem? ws i ≡ some Unbound → (more : ℕ) → Whole more ws → Whole more (set ws i (Bound s))
-  whole_bound [] i e more h = absurd (none-ne-some Unbound e)
-  whole_bound (v ∷ vs) zero e more h = whole_here more v vs (some-injective v Unbound e) h
+  whole_bound : (ws : List Cell) (i : ℕ) → slice_get ws i ≡ Some Unbound → (more : ℕ) → Whole more ws → Whole more (set ws i (Bound s))
+  whole_bound [] i e more h = absurd (None-ne-Some Unbound e)
+  whole_bound (v ∷ vs) zero e more h = whole_here more v vs (Some-injective v Unbound e) h
   whole_bound (v ∷ vs) (suc i) e more h = whole_rest more v vs (set vs i (Bound s)) (whole_bound vs i e) h
 
-  grown_bound : (ws : List Cell) (i : ℕ) → get_elem? ws i ≡ some Unbound → Grown ws (set ws i (Bound s))
+  grown_bound : (ws : List Cell) (i : ℕ) → slice_get ws i ≡ Some Unbound → Grown ws (set ws i (Bound s))
   unfolding Grown Later IsVariable
   grown_bound [] i e = tt
-  grown_bound (v ∷ vs) zero e = (rw (some-injective v Unbound e) tt, grown_refl vs)
+  grown_bound (v ∷ vs) zero e = (rw (Some-injective v Unbound e) tt, grown_refl vs)
   grown_bound (v ∷ vs) (suc i) e = (later_refl v, grown_bound vs i e)
 
 -- word i of a page is its cell i - 1
-word_get : (ws : List Cell) (i : ℕ) (w : Cell) → word ws i ≡ some w → get_elem? ws (i - 1) ≡ some w
+word_get : (ws : List Cell) (i : ℕ) (w : Cell) → word ws i ≡ Some w → slice_get ws (i - 1) ≡ Some w
 unfolding word
-word_get ws zero w e = absurd (none-ne-some w e)
+word_get ws zero w e = absurd (None-ne-Some w e)
 word_get ws (suc i) w e = let z : suc i - 1 ≡ i = omega arith in rw z e
 
 -- ---- pages and regions
 
 -- r names an unbound variable on this page, if the page is its own
 abbrev Open : Ref → Page → Type 0
-Open r p = p.number ≡ r.address / 16 → word p.words (r.address % 16) ≡ some Unbound
+Open r p = p.number ≡ r.address / 16 → word p.words (r.address % 16) ≡ Some Unbound
 
 module _ (l : Limits) (next : ℕ) (r s : Ref) (target : RefIn l next s) where
   -- a page is in order, and its words have grown
@@ -131,9 +131,9 @@ not_younger r = rw (eq-eqb r.stamp r.stamp refl) (le-ltb r.address r.address (om
 
 -- the variable at r may be bound to the cell at s
 pub record Binds (c : Copy) (r s : Ref) : Type 0 where
-  pub variable : cell_at c r ≡ some Unbound
+  pub variable : cell_at c r ≡ Some Unbound
   pub cell : Cell
-  pub found : cell_at c s ≡ some cell
+  pub found : cell_at c s ≡ Some cell
   pub ends : Ends cell
   pub order : IsVariable cell → younger r s ≡ true
 
@@ -162,7 +162,7 @@ module _ (l : Limits) (next : ℕ) (c : Copy) (ok : CopyOk l next c) (r s : Ref)
       by false e = (k, region_refl l next g k)
 
   -- what is read after: the variable is bound, and all else is as it was
-  here : cell_at after r ≡ some (Bound s)
+  here : cell_at after r ≡ Some (Bound s)
   here = cell_same r (Bound s) c Unbound b.variable
 
   there : (q : Ref) → q ≢ r → cell_at after q ≡ cell_at c q
@@ -172,7 +172,7 @@ module _ (l : Limits) (next : ℕ) (c : Copy) (ok : CopyOk l next c) (r s : Ref)
   other : s ≢ r
   unfolding IsVariable
   other e =
-      let z : b.cell ≡ Unbound = some-injective b.cell Unbound (sym b.found ∙ ap (cell_at c) e ∙ b.variable) in
+      let z : b.cell ≡ Unbound = Some-injective b.cell Unbound (sym b.found ∙ ap (cell_at c) e ∙ b.variable) in
       let y : younger r s ≡ true = b.order (rw z tt) in
       true≢false (sym y ∙ ap (younger r) e ∙ not_younger r)
 
@@ -181,16 +181,16 @@ module _ (l : Limits) (next : ℕ) (c : Copy) (ok : CopyOk l next c) (r s : Ref)
   unfolding Names Starts
   still q h a = by (same_ref q r)
     where
-      by : (q ≡ r) ⊎ (q ≢ r) → (w : Cell) × (cell_at after q ≡ some w) × Starts w
+      by : (q ≡ r) ⊎ (q ≢ r) → (w : Cell) × (cell_at after q ≡ Some w) × Starts w
       by (inl e) = (Bound s, ap (cell_at after) e ∙ here, tt)
       by (inr n) = let k = h (sym (live_set r (Bound s) c q.stamp) ∙ a) in (k.0, there q n ∙ k.1, k.2)
 
   -- and what is a variable was one
-  was : (q : Ref) (w : Cell) → cell_at after q ≡ some w → IsVariable w → (v : Cell) × (cell_at c q ≡ some v) × IsVariable v
+  was : (q : Ref) (w : Cell) → cell_at after q ≡ Some w → IsVariable w → (v : Cell) × (cell_at c q ≡ Some v) × IsVariable v
   unfolding IsVariable
   was q w e k = by (same_ref q r)
     where
-      by : (q ≡ r) ⊎ (q ≢ r) → (v : Cell) × (cell_at c q ≡ some v) × IsVariable v
+      by : (q ≡ r) ⊎ (q ≢ r) → (v : Cell) × (cell_at c q ≡ Some v) × IsVariable v
       by (inl z) = (Unbound, ap (cell_at c) z ∙ b.variable, tt)
       by (inr n) = (w, sym (there q n) ∙ e, k)
 
@@ -198,15 +198,15 @@ module _ (l : Limits) (next : ℕ) (c : Copy) (ok : CopyOk l next c) (r s : Ref)
   unfolding CellNames
   names_here = (
     still s (end_names c s b.cell b.found b.ends),
-    λ v f k. b.order (subst IsVariable (some-injective v b.cell (sym f ∙ there s other ∙ b.found)) k),
+    λ v f k. b.order (subst IsVariable (Some-injective v b.cell (sym f ∙ there s other ∙ b.found)) k),
   )
 
-  names_after : (q : Ref) (w : Cell) → cell_at after q ≡ some w → CellNames after q w
+  names_after : (q : Ref) (w : Cell) → cell_at after q ≡ Some w → CellNames after q w
   names_after q w e = by (same_ref q r)
     where
       by : (q ≡ r) ⊎ (q ≢ r) → CellNames after q w
       by (inl z) =
-          let v : Bound s ≡ w = some-injective (Bound s) w (sym here ∙ ap (cell_at after) (sym z) ∙ e) in
+          let v : Bound s ≡ w = Some-injective (Bound s) w (sym here ∙ ap (cell_at after) (sym z) ∙ e) in
           subst (λ (x : Ref). CellNames after x w) (sym z) (subst (CellNames after r) v names_here)
       by (inr n) = cells_kept l next c after (λ x i. still x) ok (λ x v y. was x v) q w (sym (there q n) ∙ e)
 

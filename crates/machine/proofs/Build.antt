@@ -1,18 +1,18 @@
 -- Ops 3, 4 and 5: a term is put into a region of the present copy, and a register refers to its first cell. The machine stays sound.
-use Rattle.std.specs.Prelude.{if◌then◌else◌}
+use Rattle.std.specs.Prelude.{if◌then◌else◌, Option, Some, None, slice_get}
 use mathlib.Core.Path.{◌≡◌, refl, sym, ap, ◌∙◌, subst}
 use mathlib.Core.Bool.{Bool, true, false}
 use mathlib.Core.Logic.{◌⊎◌, inl, inr, ◌≢◌}
 use mathlib.Core.List.Memᴰ
 use mathlib.Core.List.{List, [], ◌∷◌, map, Memᴰ}
-use mathlib.Core.Option.{Option, none, some, none-ne-some, some-injective}
+use Rattle.laws.proofs.Options.{None-ne-Some, Some-injective}
 use Prim.Native.Nat.{ℕ, zero, suc, ◌^◌, ◌≤◌, ◌<◌}
 use native.Mathlib.Nat.{add-zero}
 use native.Mathlib.Omega.{arith}
 use lib.Dec.{eqb}
 use lib.IntN.{ℤ}
 use borrow.Author.Tests.{eqb-true, eqb-false, eq-eqb, ne_eqb}
-use lib.ListN.{length, get_elem?}
+use lib.ListN.{length}
 use Rattle.laws.specs.Base.{Each, Pairs}
 use Rattle.laws.proofs.Lists.{each_at, each_by, each_imp, pairs_imp, pairs_map, mem_map, map_mem, some_at, first_at}
 use Rattle.words.specs.declared.Ref.{Ref}
@@ -120,30 +120,30 @@ module _ (l : Limits) (next : ℕ) (c : Copy) (ok : CopyOk l next c) (g : Region
       by h q (inr m) = subst (λ (t : ℕ). live c t ≡ true) q (mem_live c h m)
 
   -- each old cell is where it was
-  cell_kept : (r : Ref) (w : Cell) → cell_at c r ≡ some w → cell_at after r ≡ some w
+  cell_kept : (r : Ref) (w : Cell) → cell_at c r ≡ Some w → cell_at after r ≡ Some w
   cell_kept r w e = let k = region_found c.regions r w e in by k.0 k.1 k.2 k.3 (eqb k.0.stamp g.stamp) refl
     where
-      by : (h : Region) → Memᴰ h c.regions → h.stamp ≡ r.stamp → in_pages h.pages r.address ≡ some w → (t : Bool) → eqb h.stamp g.stamp ≡ t →
-          cell_at after r ≡ some w
+      by : (h : Region) → Memᴰ h c.regions → h.stamp ≡ r.stamp → in_pages h.pages r.address ≡ Some w → (t : Bool) → eqb h.stamp g.stamp ≡ t →
+          cell_at after r ≡ Some w
       by h m q i true b =
           let z : h ≡ g = one_region c.regions ok.in_order h g m at (eqb-true h.stamp g.stamp b) in
           region_cell after.regions order_kept (own g u) own_in r (sym (eqb-true h.stamp g.stamp b) ∙ q)
-          ∙ added.kept r.address w (subst (λ (y : Region). in_pages y.pages r.address ≡ some w) z i)
+          ∙ added.kept r.address w (subst (λ (y : Region). in_pages y.pages r.address ≡ Some w) z i)
       by h m q i false b = region_cell after.regions order_kept h (other_in h m (eqb-false h.stamp g.stamp b)) r q ∙ i
 
   -- and each cell that is there was there, or is one of the new
-  cell_was : (r : Ref) (w : Cell) → cell_at after r ≡ some w → (cell_at c r ≡ some w) ⊎ Memᴰ w ws
+  cell_was : (r : Ref) (w : Cell) → cell_at after r ≡ Some w → (cell_at c r ≡ Some w) ⊎ Memᴰ w ws
   cell_was r w e = let k = region_found after.regions r w e in by k.0 k.2 k.3 (region_was c g u k.0 k.1)
     where
-      old : (h : Region) → Memᴰ h c.regions → h.stamp ≡ r.stamp → in_pages h.pages r.address ≡ some w → cell_at c r ≡ some w
+      old : (h : Region) → Memᴰ h c.regions → h.stamp ≡ r.stamp → in_pages h.pages r.address ≡ Some w → cell_at c r ≡ Some w
       old h m q i = region_cell c.regions ok.in_order h m r q ∙ i
 
-      new : g.stamp ≡ r.stamp → (in_pages g.pages r.address ≡ some w) ⊎ Memᴰ w ws → (cell_at c r ≡ some w) ⊎ Memᴰ w ws
+      new : g.stamp ≡ r.stamp → (in_pages g.pages r.address ≡ Some w) ⊎ Memᴰ w ws → (cell_at c r ≡ Some w) ⊎ Memᴰ w ws
       new q (inl i) = inl (old g at q i)
       new q (inr i) = inr i
 
-      by : (h : Region) → h.stamp ≡ r.stamp → in_pages h.pages r.address ≡ some w → Was c g u h → (cell_at c r ≡ some w) ⊎ Memᴰ w ws
-      by h q i (inl z) = new (ap (λ (y : Region). y.stamp) (sym z) ∙ q) (added.back r.address w (subst (λ (y : Region). in_pages y.pages r.address ≡ some w) z i))
+      by : (h : Region) → h.stamp ≡ r.stamp → in_pages h.pages r.address ≡ Some w → Was c g u h → (cell_at c r ≡ Some w) ⊎ Memᴰ w ws
+      by h q i (inl z) = new (ap (λ (y : Region). y.stamp) (sym z) ∙ q) (added.back r.address w (subst (λ (y : Region). in_pages y.pages r.address ≡ Some w) z i))
       by h q i (inr m) = inl (old h m q i)
 
   -- so what a reference named it names still
@@ -152,7 +152,7 @@ module _ (l : Limits) (next : ℕ) (c : Copy) (ok : CopyOk l next c) (g : Region
   names_kept r n v = let k = n (live_was r.stamp v) in (k.0, cell_kept r k.0 k.1, k.2)
 
   -- and no other word
-  named_was : (r : Ref) (w : Cell) → Names c r → cell_at after r ≡ some w → cell_at c r ≡ some w
+  named_was : (r : Ref) (w : Cell) → Names c r → cell_at after r ≡ Some w → cell_at c r ≡ Some w
   unfolding Names
   named_was r w n e =
       let k = n (live_was r.stamp (cell_live after r w e)) in
@@ -175,7 +175,7 @@ module _ (l : Limits) (next : ℕ) (c : Copy) (ok : CopyOk l next c) (g : Region
       region h (inl z) = subst (RegionOk l next) (sym z) added.region
       region h (inr m) = each_at (RegionOk l next) c.regions ok.regions h m
 
-      cell : (r : Ref) (w : Cell) → (cell_at c r ≡ some w) ⊎ Memᴰ w ws → CellNames c r w
+      cell : (r : Ref) (w : Cell) → (cell_at c r ≡ Some w) ⊎ Memᴰ w ws → CellNames c r w
       cell r w (inl e) = ok.cells_name r w e
       cell r w (inr m) = each_at (Anywhere c) ws names w m r
 
@@ -187,7 +187,7 @@ module _ (l : Limits) (next : ℕ) (c : Copy) (ok : CopyOk l next c) (g : Region
   unfolding Names
   term_named t v = by ws t.whole t.least (rw add-zero at (added.cells 0 t.least))
     where
-      by : (vs : List Cell) → Whole 0 vs → 1 ≤ length vs → in_pages u.pages u.address ≡ get_elem? vs 0 → (w : Cell) × (cell_at after (term_ref g u) ≡ some w) × Starts w
+      by : (vs : List Cell) → Whole 0 vs → 1 ≤ length vs → in_pages u.pages u.address ≡ slice_get vs 0 → (w : Cell) × (cell_at after (term_ref g u) ≡ Some w) × Starts w
       by [] h i e = absurd (omega arith)
       by (w ∷ vs) h i e = (w, region_cell after.regions order_kept (own g u) own_in (term_ref g u) refl ∙ e, whole_starts w vs h)
 
@@ -198,7 +198,7 @@ module _ (m : Machine) (s : Sound m) (ws : List Cell) (term : TermOk m.limits m.
   present_ok = each_at (RegionOk m.limits m.next) m.present.regions s.each.0.regions
 
   -- the page that may join was free, so the region did not list it
-  fresh : (g : Region) → Memᴰ g m.present.regions → (n : ℕ) → lowest (free m) ≡ some n → PageIn m.limits n × (lists n g ≡ true → ⊥)
+  fresh : (g : Region) → Memᴰ g m.present.regions → (n : ℕ) → lowest (free m) ≡ Some n → PageIn m.limits n × (lists n g ≡ true → ⊥)
   fresh g at n e = let k = lowest_free_lem m n e in (k.1, free_unlisted m n k.0 m.present (Memᴰ.head refl) g at)
 
   term_onward : (d : ℕ) (g : Region) → Memᴰ g m.present.regions → (u : Put) → Added m.limits m.next (lowest (free m)) ws g u →
@@ -217,7 +217,7 @@ module _ (m : Machine) (s : Sound m) (ws : List Cell) (term : TermOk m.limits m.
       by h (inl z) = (g, at, ap (λ (y : Region). y.stamp) (sym z), subst (RegionGrown g) (sym z) added.grown)
       by h (inr x) = (h, x, refl, region_refl m.limits m.next h (present_ok h x))
 
-      new : (h : Region) (p : ℕ) → h ≡ own g u → (lists p g ≡ true) ⊎ (lowest (free m) ≡ some p) →
+      new : (h : Region) (p : ℕ) → h ≡ own g u → (lists p g ≡ true) ⊎ (lowest (free m) ≡ Some p) →
           Listed m.present.regions h.stamp p ⊎ ((held m p ≡ false) × (h.stamp ≡ g.stamp))
       new h p z (inl e) = inl (g, at, ap (λ (y : Region). y.stamp) (sym z), e)
       new h p z (inr e) = inr ((lowest_free_lem m p e).0, ap (λ (y : Region). y.stamp) z)
@@ -231,35 +231,35 @@ module _ (m : Machine) (s : Sound m) (ws : List Cell) (term : TermOk m.limits m.
   placed_sound d g at = by (put (lowest (free m)) ws g.pages) refl
     where
       by : (o : Option Put) → put (lowest (free m)) ws g.pages ≡ o → Sound (within m (placed m.present d g.stamp o)).machine
-      by none e = s
-      by (some u) e = onward_sound m g.stamp (set_reg (grown m.present g u) d (Reg.Term (term_ref g u))) s
+      by None e = s
+      by (Some u) e = onward_sound m g.stamp (set_reg (grown m.present g u) d (Reg.Term (term_ref g u))) s
           (term_onward d g at u (put_adds m.limits m.next (lowest (free m)) ws g (present_ok g at) term (fresh g at) u e))
 
 -- the region that a register names is one of the copy
-region_at_lem : (c : Copy) (x : Register) (g : Region) → as_region c x ≡ some g → Memᴰ g c.regions
+region_at_lem : (c : Copy) (x : Register) (g : Region) → as_region c x ≡ Some g → Memᴰ g c.regions
 unfolding as_region
-region_at_lem c Reg.Empty g e = absurd (none-ne-some g e)
+region_at_lem c Reg.Empty g e = absurd (None-ne-Some g e)
 region_at_lem c (Reg.Region t) g e = (first_at (stamped t) c.regions g e).0
-region_at_lem c (Reg.Term r) g e = absurd (none-ne-some g e)
+region_at_lem c (Reg.Term r) g e = absurd (None-ne-Some g e)
 
 -- THE LAW OF BUILDING: to put a whole term whose cells name what they must, wherever they come to stand, keeps a sound machine sound
 pub building_sound : (m : Machine) (d a : ℕ) (ws : List Cell) → TermOk m.limits m.next ws → Each (Anywhere m.present) ws → Sound m →
-    Sound (building m d a (some ws)).machine
+    Sound (building m d a (Some ws)).machine
 unfolding build
 building_sound m d a ws term names s = by (region_at m.present a) refl
   where
-    by : (o : Option Region) → region_at m.present a ≡ o → Sound (within m (build (lowest (free m)) m.present d o (some ws))).machine
-    by none e = s
-    by (some g) e = placed_sound m s ws term names d g (region_at_lem m.present (reg m.present a) g e)
+    by : (o : Option Region) → region_at m.present a ≡ o → Sound (within m (build (lowest (free m)) m.present d o (Some ws))).machine
+    by None e = s
+    by (Some g) e = placed_sound m s ws term names d g (region_at_lem m.present (reg m.present a) g e)
 
 -- with no cells nothing is built
-pub building_none : (m : Machine) (d a : ℕ) → Sound m → Sound (building m d a none).machine
+pub building_none : (m : Machine) (d a : ℕ) → Sound m → Sound (building m d a None).machine
 unfolding build
 building_none m d a s = by (region_at m.present a)
   where
-    by : (o : Option Region) → Sound (within m (build (lowest (free m)) m.present d o none)).machine
-    by none = s
-    by (some g) = s
+    by : (o : Option Region) → Sound (within m (build (lowest (free m)) m.present d o None)).machine
+    by None = s
+    by (Some g) = s
 
 -- ---- the three steps
 
@@ -272,15 +272,15 @@ unfolding exec Whole CellIn CellNames
 exec_integer m d a v h = building_sound m d a (Int v ∷ []) (record { least = omega arith; most = omega arith; whole = tt; cells = (h, tt) }) (λ r. tt, tt)
 
 -- a term that a step takes from a register is in it
-live_term : (c : Copy) (x : Register) (r : Ref) → as_live c x ≡ some r → x ≡ Reg.Term r
+live_term : (c : Copy) (x : Register) (r : Ref) → as_live c x ≡ Some r → x ≡ Reg.Term r
 unfolding as_live
-live_term c Reg.Empty r e = absurd (none-ne-some r e)
-live_term c (Reg.Region s) r e = absurd (none-ne-some r e)
+live_term c Reg.Empty r e = absurd (None-ne-Some r e)
+live_term c (Reg.Region s) r e = absurd (None-ne-Some r e)
 live_term c (Reg.Term q) r e = by (live c q.stamp) e
   where
-    by : (t : Bool) → (if t then some q else none) ≡ some r → Reg.Term q ≡ Reg.Term r
-    by true k = ap Reg.Term (some-injective q r k)
-    by false k = absurd (none-ne-some r k)
+    by : (t : Bool) → (if t then Some q else None) ≡ Some r → Reg.Term q ≡ Reg.Term r
+    by true k = ap Reg.Term (Some-injective q r k)
+    by false k = absurd (None-ne-Some r k)
 
 -- n arguments of a term, which a sound copy's registers gave
 record Arguments (l : Limits) (next : ℕ) (c : Copy) (n : ℕ) (ws : List Cell) : Type 0 where
@@ -290,7 +290,7 @@ record Arguments (l : Limits) (next : ℕ) (c : Copy) (n : ℕ) (ws : List Cell)
   names : Each (Anywhere c) ws
 
 module _ (l : Limits) (next : ℕ) (c : Copy) (ok : CopyOk l next c) where
-  argument_more : (b n : ℕ) (r : Ref) (ws : List Cell) → live_at c b ≡ some r → Arguments l next c n ws → Arguments l next c (suc n) (Argument r ∷ ws)
+  argument_more : (b n : ℕ) (r : Ref) (ws : List Cell) → live_at c b ≡ Some r → Arguments l next c n ws → Arguments l next c (suc n) (Argument r ∷ ws)
   unfolding Whole CellIn CellNames RegisterIn RegisterNames
   argument_more b n r ws e k =
       let z = live_term c (reg c b) r e in
@@ -301,23 +301,23 @@ module _ (l : Limits) (next : ℕ) (c : Copy) (ok : CopyOk l next c) where
         names = (λ q. subst (RegisterNames c) z (register_named l next c b ok), k.names);
       }
 
-  operands_ok : (n b : ℕ) (ws : List Cell) → operands n c b ≡ some ws → Arguments l next c n ws
+  operands_ok : (n b : ℕ) (ws : List Cell) → operands n c b ≡ Some ws → Arguments l next c n ws
   unfolding operands operand Whole
-  operands_ok zero b ws e = subst (Arguments l next c 0) (some-injective [] ws e) (record { count = refl; whole = tt; cells = tt; names = tt })
+  operands_ok zero b ws e = subst (Arguments l next c 0) (Some-injective [] ws e) (record { count = refl; whole = tt; cells = tt; names = tt })
   operands_ok (suc n) b ws e = by (live_at c b) refl (operands n c (suc b)) e (λ vs k. operands_ok n (suc b) vs k)
     where
-      by : (o : Option Ref) → live_at c b ≡ o → (vs : Option (List Cell)) → operand o vs ≡ some ws → ((us : List Cell) → vs ≡ some us → Arguments l next c n us) →
+      by : (o : Option Ref) → live_at c b ≡ o → (vs : Option (List Cell)) → operand o vs ≡ Some ws → ((us : List Cell) → vs ≡ Some us → Arguments l next c n us) →
           Arguments l next c (suc n) ws
-      by none q vs k ih = absurd (none-ne-some ws k)
-      by (some r) q none k ih = absurd (none-ne-some ws k)
-      by (some r) q (some vs) k ih = subst (Arguments l next c (suc n)) (some-injective (Argument r ∷ vs) ws k) (argument_more b n r vs q (ih vs refl))
+      by None q vs k ih = absurd (None-ne-Some ws k)
+      by (Some r) q None k ih = absurd (None-ne-Some ws k)
+      by (Some r) q (Some vs) k ih = subst (Arguments l next c (suc n)) (Some-injective (Argument r ∷ vs) ws k) (argument_more b n r vs q (ih vs refl))
 
 pub exec_structure : (m : Machine) (d a b f n : ℕ) → f < 2 ^ 16 → n ≤ 14 → Sound m → Sound (exec m (Structure d a b f n)).machine
 unfolding exec headed Whole CellIn CellNames
 exec_structure m d a b f n hf hn s = by (operands n m.present b) (λ ws e. operands_ok m.limits m.next m.present s.each.0 n b ws e)
   where
-    by : (o : Option (List Cell)) → ((ws : List Cell) → o ≡ some ws → Arguments m.limits m.next m.present n ws) → Sound (building m d a (headed (Head f n) o)).machine
-    by none k = building_none m d a s
-    by (some ws) k =
+    by : (o : Option (List Cell)) → ((ws : List Cell) → o ≡ Some ws → Arguments m.limits m.next m.present n ws) → Sound (building m d a (headed (Head f n) o)).machine
+    by None k = building_none m d a s
+    by (Some ws) k =
         let t = k ws refl in
         building_sound m d a (Head f n ∷ ws) (record { least = omega arith; most = omega (arith, t.count); whole = t.whole; cells = ((hf, hn), t.cells) }) (λ r. tt, t.names) s

@@ -1,16 +1,16 @@
 -- Reading and setting a cell of a copy: where a cell that is found stands, that it is in range, and what is read after one cell was set.
-use Rattle.std.specs.Prelude.{if◌then◌else◌}
+use Rattle.std.specs.Prelude.{if◌then◌else◌, Some, slice_get}
 use mathlib.Core.Path.{◌≡◌, refl, sym, ap, ap₂, ◌∙◌, subst}
 use mathlib.Core.Bool.{Bool, true, false}
 use mathlib.Core.Logic.{◌⊎◌, inl, inr, ◌≢◌}
 use mathlib.Core.List.Memᴰ
 use mathlib.Core.List.{List, [], ◌∷◌, map, Memᴰ, Nodup, Nodup-cons}
-use mathlib.Core.Option.{some, none-ne-some, some-injective}
+use Rattle.laws.proofs.Options.{None-ne-Some, Some-injective}
 use Prim.Native.Nat.{ℕ, zero, suc, ◌-◌, ◌/◌, ◌%◌, ◌≤◌}
 use native.Mathlib.Omega.{arith}
 use lib.Dec.{eqb}
 use borrow.Author.Tests.{eq-eqb, eqb-true, eqb-false}
-use lib.ListN.{length, set, get_elem?, length-set}
+use lib.ListN.{length, set, length-set}
 use Rattle.laws.specs.Base.{some_of}
 use Rattle.laws.proofs.Lists.{each_at, some_yes, map_mem}
 use Rattle.words.specs.declared.Ref.{Ref}
@@ -22,42 +22,42 @@ use Rattle.machine.proofs.Growth.{one_region}
 -- ---- where a cell that is found stands
 
 -- a cell is no word 0, and it is one of the page's words
-pub word_found : (ws : List Cell) (i : ℕ) (w : Cell) → word ws i ≡ some w → (1 ≤ i) × Memᴰ w ws
+pub word_found : (ws : List Cell) (i : ℕ) (w : Cell) → word ws i ≡ Some w → (1 ≤ i) × Memᴰ w ws
 unfolding word
-word_found ws zero w e = absurd (none-ne-some w e)
+word_found ws zero w e = absurd (None-ne-Some w e)
 word_found ws (suc i) w e = (omega arith, at ws i e)
   where
-    at : (vs : List Cell) (j : ℕ) → get_elem? vs j ≡ some w → Memᴰ w vs
-    at [] j q = absurd (none-ne-some w q)
-    at (v ∷ vs) zero q = Memᴰ.head (sym (some-injective v w q))
+    at : (vs : List Cell) (j : ℕ) → slice_get vs j ≡ Some w → Memᴰ w vs
+    at [] j q = absurd (None-ne-Some w q)
+    at (v ∷ vs) zero q = Memᴰ.head (sym (Some-injective v w q))
     at (v ∷ vs) (suc j) q = Memᴰ.tail (at vs j q)
 
-pub page_found : (ps : List Page) (a : ℕ) (w : Cell) → in_pages ps a ≡ some w →
-    (p : Page) × Memᴰ p ps × (p.number ≡ a / 16) × (word p.words (a % 16) ≡ some w)
+pub page_found : (ps : List Page) (a : ℕ) (w : Cell) → in_pages ps a ≡ Some w →
+    (p : Page) × Memᴰ p ps × (p.number ≡ a / 16) × (word p.words (a % 16) ≡ Some w)
 unfolding in_pages
-page_found [] a w h = absurd (none-ne-some w h)
+page_found [] a w h = absurd (None-ne-Some w h)
 page_found (q ∷ qs) a w h = by (eqb q.number (a / 16)) refl h (λ k. page_found qs a w k)
   where
-    by : (t : Bool) → eqb q.number (a / 16) ≡ t → (if t then word q.words (a % 16) else in_pages qs a) ≡ some w →
-        (in_pages qs a ≡ some w → (p : Page) × Memᴰ p qs × (p.number ≡ a / 16) × (word p.words (a % 16) ≡ some w)) →
-        (p : Page) × Memᴰ p (q ∷ qs) × (p.number ≡ a / 16) × (word p.words (a % 16) ≡ some w)
+    by : (t : Bool) → eqb q.number (a / 16) ≡ t → (if t then word q.words (a % 16) else in_pages qs a) ≡ Some w →
+        (in_pages qs a ≡ Some w → (p : Page) × Memᴰ p qs × (p.number ≡ a / 16) × (word p.words (a % 16) ≡ Some w)) →
+        (p : Page) × Memᴰ p (q ∷ qs) × (p.number ≡ a / 16) × (word p.words (a % 16) ≡ Some w)
     by true e k ih = (q, Memᴰ.head refl, eqb-true q.number (a / 16) e, k)
     by false e k ih = let z = ih k in (z.0, Memᴰ.tail z.1, z.2, z.3)
 
-pub region_found : (gs : List Region) (r : Ref) (w : Cell) → in_regions gs r ≡ some w →
-    (g : Region) × Memᴰ g gs × (g.stamp ≡ r.stamp) × (in_pages g.pages r.address ≡ some w)
+pub region_found : (gs : List Region) (r : Ref) (w : Cell) → in_regions gs r ≡ Some w →
+    (g : Region) × Memᴰ g gs × (g.stamp ≡ r.stamp) × (in_pages g.pages r.address ≡ Some w)
 unfolding in_regions
-region_found [] r w h = absurd (none-ne-some w h)
+region_found [] r w h = absurd (None-ne-Some w h)
 region_found (g ∷ gs) r w h = by (eqb g.stamp r.stamp) refl h (λ k. region_found gs r w k)
   where
-    by : (t : Bool) → eqb g.stamp r.stamp ≡ t → (if t then in_pages g.pages r.address else in_regions gs r) ≡ some w →
-        (in_regions gs r ≡ some w → (x : Region) × Memᴰ x gs × (x.stamp ≡ r.stamp) × (in_pages x.pages r.address ≡ some w)) →
-        (x : Region) × Memᴰ x (g ∷ gs) × (x.stamp ≡ r.stamp) × (in_pages x.pages r.address ≡ some w)
+    by : (t : Bool) → eqb g.stamp r.stamp ≡ t → (if t then in_pages g.pages r.address else in_regions gs r) ≡ Some w →
+        (in_regions gs r ≡ Some w → (x : Region) × Memᴰ x gs × (x.stamp ≡ r.stamp) × (in_pages x.pages r.address ≡ Some w)) →
+        (x : Region) × Memᴰ x (g ∷ gs) × (x.stamp ≡ r.stamp) × (in_pages x.pages r.address ≡ Some w)
     by true e k ih = (g, Memᴰ.head refl, eqb-true g.stamp r.stamp e, k)
     by false e k ih = let z = ih k in (z.0, Memᴰ.tail z.1, z.2, z.3)
 
 -- the region of a cell is in the copy
-pub cell_live : (c : Copy) (r : Ref) (w : Cell) → cell_at c r ≡ some w → live c r.stamp ≡ true
+pub cell_live : (c : Copy) (r : Ref) (w : Cell) → cell_at c r ≡ Some w → live c r.stamp ≡ true
 cell_live c r w e =
     let g = region_found c.regions r w e in
     some_yes (stamped r.stamp) c.regions g.0 g.1 (eq-eqb g.0.stamp r.stamp g.2)
@@ -78,12 +78,12 @@ one_page (k ∷ ks) d p q x y e = by (Memᴰ.cases_cons x) (Memᴰ.cases_cons y)
     by (inr a) (inl b) ih = absurd (no p a (ap (λ (z : Page). z.number) (sym b) ∙ sym e))
     by (inr a) (inr b) ih = ih a b
 
-module _ (l : Limits) (next : ℕ) (c : Copy) (ok : CopyOk l next c) (r : Ref) (w : Cell) (found : cell_at c r ≡ some w) where
+module _ (l : Limits) (next : ℕ) (c : Copy) (ok : CopyOk l next c) (r : Ref) (w : Cell) (found : cell_at c r ≡ Some w) where
   -- the region and the page of the cell
-  abbrev home : (g : Region) × Memᴰ g c.regions × (g.stamp ≡ r.stamp) × (in_pages g.pages r.address ≡ some w)
+  abbrev home : (g : Region) × Memᴰ g c.regions × (g.stamp ≡ r.stamp) × (in_pages g.pages r.address ≡ Some w)
   home = region_found c.regions r w found
 
-  abbrev home_page : (p : Page) × Memᴰ p home.0.pages × (p.number ≡ r.address / 16) × (word p.words (r.address % 16) ≡ some w)
+  abbrev home_page : (p : Page) × Memᴰ p home.0.pages × (p.number ≡ r.address / 16) × (word p.words (r.address % 16) ≡ Some w)
   home_page = page_found home.0.pages r.address w home.3
 
   abbrev home_ok : RegionOk l next home.0
@@ -106,12 +106,12 @@ module _ (l : Limits) (next : ℕ) (c : Copy) (ok : CopyOk l next c) (r : Ref) (
 
   -- the cell stands at its place in every page of its number of every region of its stamp: there is but one
   pub own_word : (g : Region) (p : Page) → Memᴰ g c.regions → Memᴰ p g.pages → g.stamp ≡ r.stamp → p.number ≡ r.address / 16 →
-      word p.words (r.address % 16) ≡ some w
+      word p.words (r.address % 16) ≡ Some w
   own_word g p x y e f =
       let q : home.0 ≡ g = one_region c.regions ok.in_order home.0 g home.1 x (home.2 ∙ sym e) in
-      let z = page_found g.pages r.address w (subst (λ (h : Region). in_pages h.pages r.address ≡ some w) q home.3) in
+      let z = page_found g.pages r.address w (subst (λ (h : Region). in_pages h.pages r.address ≡ Some w) q home.3) in
       let o = each_at (RegionOk l next) c.regions ok.regions g x in
-      subst (λ (v : Page). word v.words (r.address % 16) ≡ some w) (one_page g.pages o.no_page_twice z.0 p z.1 y (z.2 ∙ sym f)) z.3
+      subst (λ (v : Page). word v.words (r.address % 16) ≡ Some w) (one_page g.pages o.no_page_twice z.0 p z.1 y (z.2 ∙ sym f)) z.3
 
 -- ---- one cell set
 
@@ -124,21 +124,21 @@ same_ref q r = by (eqb q.stamp r.stamp) (eqb q.address r.address) refl refl
     by true false e f = inr (λ z. eqb-false q.address r.address f (ap (λ (x : Ref). x.address) z))
     by false u e f = inr (λ z. eqb-false q.stamp r.stamp e (ap (λ (x : Ref). x.stamp) z))
 
-get_same : (ws : List Cell) (i : ℕ) (w old : Cell) → get_elem? ws i ≡ some old → get_elem? (set ws i w) i ≡ some w
-get_same [] i w old e = absurd (none-ne-some old e)
+get_same : (ws : List Cell) (i : ℕ) (w old : Cell) → slice_get ws i ≡ Some old → slice_get (set ws i w) i ≡ Some w
+get_same [] i w old e = absurd (None-ne-Some old e)
 get_same (v ∷ vs) zero w old e = refl
 get_same (v ∷ vs) (suc i) w old e = get_same vs i w old e
 
-get_other : (ws : List Cell) (i j : ℕ) (w : Cell) → j ≢ i → get_elem? (set ws i w) j ≡ get_elem? ws j
+get_other : (ws : List Cell) (i j : ℕ) (w : Cell) → j ≢ i → slice_get (set ws i w) j ≡ slice_get ws j
 get_other [] i j w n = refl
 get_other (v ∷ vs) zero zero w n = absurd (n refl)
 get_other (v ∷ vs) zero (suc j) w n = refl
 get_other (v ∷ vs) (suc i) zero w n = refl
 get_other (v ∷ vs) (suc i) (suc j) w n = get_other vs i j w (λ e. n (ap suc e))
 
-word_same : (ws : List Cell) (i : ℕ) (w old : Cell) → word ws i ≡ some old → word (set ws (i - 1) w) i ≡ some w
+word_same : (ws : List Cell) (i : ℕ) (w old : Cell) → word ws i ≡ Some old → word (set ws (i - 1) w) i ≡ Some w
 unfolding word
-word_same ws zero w old e = absurd (none-ne-some old e)
+word_same ws zero w old e = absurd (None-ne-Some old e)
 word_same ws (suc i) w old e = let z : suc i - 1 ≡ i = omega arith in rw z (get_same ws i w old e)
 
 word_other : (ws : List Cell) (i j : ℕ) (w : Cell) → 1 ≤ i → j ≢ i → word (set ws (i - 1) w) j ≡ word ws j
@@ -202,28 +202,28 @@ lists_set r w p g = by (eqb g.stamp r.stamp)
     by false = refl
 
 module _ (r : Ref) (w : Cell) where
-  pages_same : (ps : List Page) (old : Cell) → in_pages ps r.address ≡ some old → in_pages (map (set_page r w) ps) r.address ≡ some w
+  pages_same : (ps : List Page) (old : Cell) → in_pages ps r.address ≡ Some old → in_pages (map (set_page r w) ps) r.address ≡ Some w
   unfolding in_pages set_page
-  pages_same [] old h = absurd (none-ne-some old h)
+  pages_same [] old h = absurd (None-ne-Some old h)
   pages_same (p ∷ ps) old h = by (eqb p.number (r.address / 16)) refl h (λ k. pages_same ps old k)
     where
-      by : (t : Bool) → eqb p.number (r.address / 16) ≡ t → (if t then word p.words (r.address % 16) else in_pages ps r.address) ≡ some old →
-          (in_pages ps r.address ≡ some old → in_pages (map (set_page r w) ps) r.address ≡ some w) → in_pages (map (set_page r w) (p ∷ ps)) r.address ≡ some w
+      by : (t : Bool) → eqb p.number (r.address / 16) ≡ t → (if t then word p.words (r.address % 16) else in_pages ps r.address) ≡ Some old →
+          (in_pages ps r.address ≡ Some old → in_pages (map (set_page r w) ps) r.address ≡ Some w) → in_pages (map (set_page r w) (p ∷ ps)) r.address ≡ Some w
       by true e k ih = rw (e, e) (word_same p.words (r.address % 16) w old k)
       by false e k ih = rw (e, e) (ih k)
 
-  pub regions_same : (gs : List Region) (old : Cell) → in_regions gs r ≡ some old → in_regions (map (set_region r w) gs) r ≡ some w
+  pub regions_same : (gs : List Region) (old : Cell) → in_regions gs r ≡ Some old → in_regions (map (set_region r w) gs) r ≡ Some w
   unfolding in_regions set_region
-  regions_same [] old h = absurd (none-ne-some old h)
+  regions_same [] old h = absurd (None-ne-Some old h)
   regions_same (g ∷ gs) old h = by (eqb g.stamp r.stamp) refl h (λ k. regions_same gs old k)
     where
-      by : (t : Bool) → eqb g.stamp r.stamp ≡ t → (if t then in_pages g.pages r.address else in_regions gs r) ≡ some old →
-          (in_regions gs r ≡ some old → in_regions (map (set_region r w) gs) r ≡ some w) → in_regions (map (set_region r w) (g ∷ gs)) r ≡ some w
+      by : (t : Bool) → eqb g.stamp r.stamp ≡ t → (if t then in_pages g.pages r.address else in_regions gs r) ≡ Some old →
+          (in_regions gs r ≡ Some old → in_regions (map (set_region r w) gs) r ≡ Some w) → in_regions (map (set_region r w) (g ∷ gs)) r ≡ Some w
       by true e k ih = rw (e, e) (pages_same g.pages old k)
       by false e k ih = rw (e, e) (ih k)
 
   -- the cell that was set is read there
-  pub cell_same : (c : Copy) (old : Cell) → cell_at c r ≡ some old → cell_at (set_cell c r w) r ≡ some w
+  pub cell_same : (c : Copy) (old : Cell) → cell_at c r ≡ Some old → cell_at (set_cell c r w) r ≡ Some w
   unfolding set_cell
   cell_same c old h = regions_same c.regions old h
 

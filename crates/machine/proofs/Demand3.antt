@@ -5,7 +5,8 @@ use mathlib.Core.List.Memᴰ
 use mathlib.Core.List.{List, [], ◌∷◌, ◌++◌, Nodup, Nodup-nil, Nodup-cons, Memᴰ}
 use mathlib.Core.Logic.{◌⊎◌, inl, inr, ∥∥₁_elim}
 use mathlib.Core.HLevel.{⊥_prop}
-use mathlib.Core.Option.{Option, none, some, none-ne-some, some-injective}
+use Rattle.std.specs.Prelude.{Option, Some, None}
+use Rattle.laws.proofs.Options.{None-ne-Some, Some-injective}
 use Prim.Native.Nat.{ℕ, zero, suc, ◌+◌, ◌*◌, ◌≤◌, ◌<◌}
 use native.Mathlib.Omega.{arith}
 use native.Mathlib.Nat.{add-zero, add_assoc}
@@ -26,20 +27,20 @@ abbrev Ends : List ℕ → Type 0
 Ends ws =
     (m : Machine) (above : List Copy) (c : Copy) (base : List Copy) (t : Stretch) →
     m.saved ≡ above ++ (c ∷ base) →
-    stretch (length above) (lines m ws) ≡ some t →
+    stretch (length above) (lines m ws) ≡ Some t →
     final m (take t.lines ws) ≡ machine_of m.limits c base (m.next + t.regions)
 
-longer_some : (n : ℕ) (o : Option Stretch) (t : Stretch) → longer n o ≡ some t → (u : Stretch) × (o ≡ some u) × (record { lines = suc u.lines; regions = n + u.regions } ≡ t)
-longer_some n none t e = absurd (none-ne-some t e)
-longer_some n (some u) t e = (u, refl, cc)
+longer_some : (n : ℕ) (o : Option Stretch) (t : Stretch) → longer n o ≡ Some t → (u : Stretch) × (o ≡ Some u) × (record { lines = suc u.lines; regions = n + u.regions } ≡ t)
+longer_some n None t e = absurd (None-ne-Some t e)
+longer_some n (Some u) t e = (u, refl, cc)
 
 further : (ws : List ℕ) → Ends ws → (m : Machine) (w n : ℕ) (above : List Copy) (c : Copy) (base : List Copy) (t : Stretch) →
     (after m w).limits ≡ m.limits → (after m w).saved ≡ above ++ (c ∷ base) → (after m w).next ≡ m.next + n →
-    longer n (stretch (length above) (lines (after m w) ws)) ≡ some t →
+    longer n (stretch (length above) (lines (after m w) ws)) ≡ Some t →
     final m (take t.lines (w ∷ ws)) ≡ machine_of m.limits c base (m.next + t.regions)
 unfolding final
 further ws ih m w n above c base t hz hs hn e =
-    let r : (u : Stretch) × (stretch (length above) (lines (after m w) ws) ≡ some u) × (record { lines = suc u.lines; regions = n + u.regions } ≡ t)
+    let r : (u : Stretch) × (stretch (length above) (lines (after m w) ws) ≡ Some u) × (record { lines = suc u.lines; regions = n + u.regions } ≡ t)
     = longer_some n (stretch (length above) (lines (after m w) ws)) t e in
     subst (λ (t : Stretch). final m (take t.lines (w ∷ ws)) ≡ machine_of m.limits c base (m.next + t.regions)) r.2
     (ih (after m w) above c base r.0 hs r.1 ∙ cc (add_assoc m.next n r.0.regions))
@@ -47,15 +48,15 @@ further ws ih m w n above c base t hz hs hn e =
 stretch_step : (ws : List ℕ) → Ends ws → (m : Machine) (w : ℕ) (above : List Copy) (c : Copy) (base : List Copy) (t : Stretch) (e : Event) →
     Moves e m (exec m (decode w)) →
     m.saved ≡ above ++ (c ∷ base) →
-    onward (fate e (length above)) (regions_in e) (λ d. stretch d (lines (after m w) ws)) ≡ some t →
+    onward (fate e (length above)) (regions_in e) (λ d. stretch d (lines (after m w) ws)) ≡ Some t →
     final m (take t.lines (w ∷ ws)) ≡ machine_of m.limits c base (m.next + t.regions)
 unfolding onward fate final
 stretch_step ws ih m w above c base t made h hs e = further ws ih m w 1 above c base t h.0 (h.1 ∙ hs) (omega arith) e
 stretch_step ws ih m w above c base t pushed h hs e = further ws ih m w 0 (m.present ∷ above) c base t (cc) (cc) (cc (add-zero m.next)) e
-stretch_step ws ih m w [] c base t dropped h hs e = absurd (none-ne-some t e)
+stretch_step ws ih m w [] c base t dropped h hs e = absurd (None-ne-Some t e)
 stretch_step ws ih m w (x ∷ xs) c base t dropped h hs e = further ws ih m w 0 xs c base t (cc) (cc) (cc (add-zero m.next)) e
 stretch_step ws ih m w [] c base t used h hs e =
-    subst (λ (t : Stretch). final m (take t.lines (w ∷ ws)) ≡ machine_of m.limits c base (m.next + t.regions)) (some-injective _ t e)
+    subst (λ (t : Stretch). final m (take t.lines (w ∷ ws)) ≡ machine_of m.limits c base (m.next + t.regions)) (Some-injective _ t e)
     (h.3 ∙ cc (add-zero m.next))
 stretch_step ws ih m w (x ∷ xs) c base t used h hs e = further ws ih m w 0 xs c base t (cc) (cc) (cc (add-zero m.next)) e
 stretch_step ws ih m w above c base t other h hs e = further ws ih m w 0 above c base t h.0 (h.1 ∙ hs) (omega arith) e
@@ -63,21 +64,21 @@ stretch_step ws ih m w above c base t other h hs e = further ws ih m w 0 above c
 -- from a push with `above` younger choice points over its copy c: the lines up to the backtrack that uses c bring c back
 stretch_ends : (ws : List ℕ) → Ends ws
 unfolding stretch lines
-stretch_ends [] m above c base t hs e = absurd (none-ne-some t e)
+stretch_ends [] m above c base t hs e = absurd (None-ne-Some t e)
 stretch_ends (w ∷ ws) m above c base t hs e =
     stretch_step ws (stretch_ends ws) m w above c base t (event_of (decode w) (answer m w).status) (moves m (decode w)) hs e
 
 -- ---- the theorem
 
 -- after an accepted push, and the lines to the backtrack that used it, only the counter has moved
-whole_stretch : (m : Machine) (w : ℕ) (ws : List ℕ) (e : Event) (t : Stretch) → Moves e m (exec m (decode w)) → stretch_at e (lines (after m w) ws) ≡ some t →
+whole_stretch : (m : Machine) (w : ℕ) (ws : List ℕ) (e : Event) (t : Stretch) → Moves e m (exec m (decode w)) → stretch_at e (lines (after m w) ws) ≡ Some t →
     move_on t.regions m ≡ final (after m w) (take t.lines ws)
 unfolding stretch_at
-whole_stretch m w ws made t h e = absurd (none-ne-some t e)
+whole_stretch m w ws made t h e = absurd (None-ne-Some t e)
 whole_stretch m w ws pushed t h e = sym (stretch_ends ws (after m w) [] m.present m.saved t (cc) e ∙ cc)
-whole_stretch m w ws dropped t h e = absurd (none-ne-some t e)
-whole_stretch m w ws used t h e = absurd (none-ne-some t e)
-whole_stretch m w ws other t h e = absurd (none-ne-some t e)
+whole_stretch m w ws dropped t h e = absurd (None-ne-Some t e)
+whole_stretch m w ws used t h e = absurd (None-ne-Some t e)
+whole_stretch m w ws other t h e = absurd (None-ne-Some t e)
 
 -- both ways of running agree: in their machines, and in the answers of the lines that stay
 abbrev Same : Machine → List Item → Machine → Type 0
@@ -88,8 +89,8 @@ agree_step : (ws : List ℕ) (w : ℕ) (m : Machine) (o : Option Stretch) →
     ((skip : ℕ) (r : Machine) → r ≡ final (after m w) (take skip ws) → Same r (strike_from skip (lines (after m w) ws)) (final (after m w) ws)) →
     Same m (struck (record { word = w; answer = answer m w }) o (λ n. strike_from n (lines (after m w) ws))) (final (after m w) ws)
 unfolding struck replayed replay_answers kept_answers final
-agree_step ws w m none e ih = ((ih 0 (after m w) refl).0, ap (λ (x : List Answer). answer m w ∷ x) (ih 0 (after m w) refl).1)
-agree_step ws w m (some t) e ih =
+agree_step ws w m None e ih = ((ih 0 (after m w) refl).0, ap (λ (x : List Answer). answer m w ∷ x) (ih 0 (after m w) refl).1)
+agree_step ws w m (Some t) e ih =
     ih t.lines (move_on t.regions m) (whole_stretch m w ws (event_of (decode w) (answer m w).status) t (moves m (decode w)) e)
 
 agree : (ws : List ℕ) (skip : ℕ) (m r : Machine) → r ≡ final m (take skip ws) → Same r (strike_from skip (lines m ws)) (final m ws)
@@ -163,9 +164,9 @@ zero_pages w (suc k) n =
 
 -- ---- after an opening every accepted backtrack is struck
 
-longer_none : (n : ℕ) (o : Option Stretch) → longer n o ≡ none → o ≡ none
-longer_none n none e = refl
-longer_none n (some t) e = absurd (none-ne-some _ (sym e))
+longer_none : (n : ℕ) (o : Option Stretch) → longer n o ≡ None → o ≡ None
+longer_none n None e = refl
+longer_none n (Some t) e = absurd (None-ne-Some _ (sym e))
 
 -- i choice points below one that has `deep` above it
 abbrev below : ℕ → ℕ → ℕ
@@ -174,63 +175,63 @@ below (suc deep) i = suc (below deep i)
 
 -- a choice point that no backtrack uses is not used after a stretch above it either
 abbrev Unused : List Line → Type 0
-Unused ls = (deep i : ℕ) (t : Stretch) → stretch deep ls ≡ some t → stretch (below deep i) ls ≡ none → stretch i (drop t.lines ls) ≡ none
+Unused ls = (deep i : ℕ) (t : Stretch) → stretch deep ls ≡ Some t → stretch (below deep i) ls ≡ None → stretch i (drop t.lines ls) ≡ None
 
-unused_on : (l : Line) (ls : List Line) → Unused ls → (n deep i : ℕ) (t : Stretch) → longer n (stretch deep ls) ≡ some t → longer n (stretch (below deep i) ls) ≡ none →
-    stretch i (drop t.lines (l ∷ ls)) ≡ none
+unused_on : (l : Line) (ls : List Line) → Unused ls → (n deep i : ℕ) (t : Stretch) → longer n (stretch deep ls) ≡ Some t → longer n (stretch (below deep i) ls) ≡ None →
+    stretch i (drop t.lines (l ∷ ls)) ≡ None
 unused_on l ls ih n deep i t e z =
-    let r : (u : Stretch) × (stretch deep ls ≡ some u) × (record { lines = suc u.lines; regions = n + u.regions } ≡ t) = longer_some n (stretch deep ls) t e in
-    subst (λ (t : Stretch). stretch i (drop t.lines (l ∷ ls)) ≡ none) r.2 (ih deep i r.0 r.1 (longer_none n (stretch (below deep i) ls) z))
+    let r : (u : Stretch) × (stretch deep ls ≡ Some u) × (record { lines = suc u.lines; regions = n + u.regions } ≡ t) = longer_some n (stretch deep ls) t e in
+    subst (λ (t : Stretch). stretch i (drop t.lines (l ∷ ls)) ≡ None) r.2 (ih deep i r.0 r.1 (longer_none n (stretch (below deep i) ls) z))
 
 unused_step : (l : Line) (ls : List Line) → Unused ls → (ev : Event) (deep i : ℕ) (t : Stretch) →
-    onward (fate ev deep) (regions_in ev) (λ d. stretch d ls) ≡ some t →
-    onward (fate ev (below deep i)) (regions_in ev) (λ d. stretch d ls) ≡ none →
-    stretch i (drop t.lines (l ∷ ls)) ≡ none
+    onward (fate ev deep) (regions_in ev) (λ d. stretch d ls) ≡ Some t →
+    onward (fate ev (below deep i)) (regions_in ev) (λ d. stretch d ls) ≡ None →
+    stretch i (drop t.lines (l ∷ ls)) ≡ None
 unfolding onward fate
 unused_step l ls ih made deep i t e z = unused_on l ls ih 1 deep i t e z
 unused_step l ls ih pushed deep i t e z = unused_on l ls ih 0 (suc deep) i t e z
-unused_step l ls ih dropped zero i t e z = absurd (none-ne-some t e)
+unused_step l ls ih dropped zero i t e z = absurd (None-ne-Some t e)
 unused_step l ls ih dropped (suc deep) i t e z = unused_on l ls ih 0 deep i t e z
 unused_step l ls ih used zero i t e z =
-    subst (λ (t : Stretch). stretch i (drop t.lines (l ∷ ls)) ≡ none) (some-injective _ t e) (longer_none 0 (stretch i ls) z)
+    subst (λ (t : Stretch). stretch i (drop t.lines (l ∷ ls)) ≡ None) (Some-injective _ t e) (longer_none 0 (stretch i ls) z)
 unused_step l ls ih used (suc deep) i t e z = unused_on l ls ih 0 deep i t e z
 unused_step l ls ih other deep i t e z = unused_on l ls ih 0 deep i t e z
 
 unused : (ls : List Line) → Unused ls
 unfolding stretch
-unused [] deep i t e z = absurd (none-ne-some t e)
+unused [] deep i t e z = absurd (None-ne-Some t e)
 unused (l ∷ ls) deep i t e z = unused_step l ls (unused ls) (event l) deep i t e z
 
 -- no backtrack of the lines uses one of the n choice points
 abbrev Spent : ℕ → List Line → Type 0
-Spent n ls = (i : ℕ) → i < n → stretch i ls ≡ none
+Spent n ls = (i : ℕ) → i < n → stretch i ls ≡ None
 
 -- a line that stays is no accepted backtrack, and what it leaves is again used by none
-kept_step : (m : Machine) (o : Outcome) (ls : List Line) (ev : Event) → Moves ev m o → stretch_at ev ls ≡ none →
-    ((i : ℕ) → i < length m.saved → onward (fate ev i) (regions_in ev) (λ d. stretch d ls) ≡ none) →
+kept_step : (m : Machine) (o : Outcome) (ls : List Line) (ev : Event) → Moves ev m o → stretch_at ev ls ≡ None →
+    ((i : ℕ) → i < length m.saved → onward (fate ev i) (regions_in ev) (λ d. stretch d ls) ≡ None) →
     (Spent (length o.machine.saved) ls) × (used_by ev 0 ≡ 0)
 unfolding onward fate stretch_at
 kept_step m o ls made h e z = ((λ i k. longer_none 1 (stretch i ls) (z i (rw (← h.1) k))), refl)
 kept_step m o ls pushed h e z = (go, refl)
   where
-    go : (i : ℕ) → i < length o.machine.saved → stretch i ls ≡ none
+    go : (i : ℕ) → i < length o.machine.saved → stretch i ls ≡ None
     go zero k = e
     go (suc i) k = longer_none 0 (stretch (suc i) ls) (z i (omega (arith, ap (λ (x : Machine). length x.saved) h)))
 kept_step m o ls dropped h e z = ((λ i k. longer_none 0 (stretch i ls) (z (suc i) (omega (arith, ap length h.2, ap (λ (x : Machine). length x.saved) h.3)))), refl)
-kept_step m o ls used h e z = absurd (none-ne-some _ (sym (z 0 (omega (arith, ap length h.2)))))
+kept_step m o ls used h e z = absurd (None-ne-Some _ (sym (z 0 (omega (arith, ap length h.2)))))
 kept_step m o ls other h e z = ((λ i k. longer_none 0 (stretch i ls) (z i (rw (← h.1) k))), refl)
 
 used_by_zero : (ev : Event) (n : ℕ) → used_by ev 0 ≡ 0 → n ≡ 0 → used_by ev n ≡ 0
 used_by_zero ev n e z = rw z e
 
-skip_spent : (n : ℕ) (ls : List Line) (ev : Event) (t : Stretch) → stretch_at ev ls ≡ some t →
-    ((i : ℕ) → i < n → onward (fate ev i) (regions_in ev) (λ d. stretch d ls) ≡ none) → Spent n (drop t.lines ls)
+skip_spent : (n : ℕ) (ls : List Line) (ev : Event) (t : Stretch) → stretch_at ev ls ≡ Some t →
+    ((i : ℕ) → i < n → onward (fate ev i) (regions_in ev) (λ d. stretch d ls) ≡ None) → Spent n (drop t.lines ls)
 unfolding onward fate stretch_at
-skip_spent n ls made t e z = absurd (none-ne-some t e)
+skip_spent n ls made t e z = absurd (None-ne-Some t e)
 skip_spent n ls pushed t e z = λ i k. unused ls 0 i t e (longer_none 0 (stretch (suc i) ls) (z i k))
-skip_spent n ls dropped t e z = absurd (none-ne-some t e)
-skip_spent n ls used t e z = absurd (none-ne-some t e)
-skip_spent n ls other t e z = absurd (none-ne-some t e)
+skip_spent n ls dropped t e z = absurd (None-ne-Some t e)
+skip_spent n ls used t e z = absurd (None-ne-Some t e)
+skip_spent n ls other t e z = absurd (None-ne-Some t e)
 
 struck_step : (ws : List ℕ) (w : ℕ) (m : Machine) (o : Option Stretch) →
     stretch_at (event_of (decode w) (answer m w).status) (lines (after m w) ws) ≡ o →
@@ -238,10 +239,10 @@ struck_step : (ws : List ℕ) (w : ℕ) (m : Machine) (o : Option Stretch) →
     ((skip : ℕ) → Spent (length (final (after m w) (take skip ws)).saved) (drop skip (lines (after m w) ws)) → backtracks_left (strike_from skip (lines (after m w) ws)) ≡ 0) →
     backtracks_left (struck (record { word = w; answer = answer m w }) o (λ n. strike_from n (lines (after m w) ws))) ≡ 0
 unfolding struck backtracks_left stretch lines final
-struck_step ws w m none e z ih =
+struck_step ws w m None e z ih =
     let k = kept_step m (exec m (decode w)) (lines (after m w) ws) (event_of (decode w) (answer m w).status) (moves m (decode w)) e z in
     used_by_zero (event_of (decode w) (answer m w).status) (backtracks_left (strike_from 0 (lines (after m w) ws))) k.1 (ih 0 k.0)
-struck_step ws w m (some t) e z ih =
+struck_step ws w m (Some t) e z ih =
     let ev : Event = event_of (decode w) (answer m w).status in
     ih t.lines
     (subst (λ (x : Machine). Spent (length x.saved) (drop t.lines (lines (after m w) ws))) (whole_stretch m w ws ev t (moves m (decode w)) e)

@@ -1,10 +1,9 @@
 -- Steps 7 and 8 keep a machine sound: they write registers only, with references that they found.
-use Rattle.std.specs.Prelude.{if◌then◌else◌}
+use Rattle.std.specs.Prelude.{if◌then◌else◌, Option, Some, None}
 use mathlib.Core.Path.{◌≡◌, refl}
 use mathlib.Core.Bool.{Bool, true, false, ◌&&◌}
 use mathlib.Core.Logic.{inl}
 use mathlib.Core.List.{List, [], ◌∷◌, Memᴰ}
-use mathlib.Core.Option.{Option, none, some}
 use Prim.Native.Nat.{ℕ, suc}
 use lib.Dec.{eqb}
 use Rattle.laws.specs.Base.{Each}
@@ -54,8 +53,8 @@ terms_kept l next (r ∷ rs) d c k h =
 module _ (l : Limits) (next : ℕ) (c : Copy) (ok : CopyOk l next c) where
   found_good : (o : Option Ref) (r : Ref) (w : Cell) → found_from c o ≡ At r w → GoodRef l next c r
   unfolding found_from
-  found_good none r w e = absurd (dead_not_at r w e)
-  found_good (some q) r w e = deref_good l next c ok q r w e
+  found_good None r w e = absurd (dead_not_at r w e)
+  found_good (Some q) r w e = deref_good l next c ok q r w e
 
   seen_kept : (d : ℕ) (f : Found) → ((r : Ref) (w : Cell) → f ≡ At r w → GoodRef l next c r) → Kept l next c (seen c d f).copy
   unfolding seen RegisterIn RegisterNames

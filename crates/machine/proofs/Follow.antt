@@ -1,11 +1,11 @@
 -- Following references: the bound in `deref` is never met in a sound machine, what deref and a structure's arguments lead to is in range and
 -- names a cell, and an agenda of unification may be worked off in two parts.
-use Rattle.std.specs.Prelude.{if◌then◌else◌}
+use Rattle.std.specs.Prelude.{if◌then◌else◌, Option, Some, None}
 use mathlib.Core.Path.{◌≡◌, refl, sym, ap, ◌∙◌, subst}
 use mathlib.Core.Bool.{Bool, true, false}
 use mathlib.Core.Logic.{◌⊎◌, inl, inr}
 use mathlib.Core.List.{List, [], ◌∷◌, ◌++◌, append_assoc, Memᴰ}
-use mathlib.Core.Option.{Option, none, some, none-ne-some, some-injective}
+use Rattle.laws.proofs.Options.{None-ne-Some, Some-injective}
 use Prim.Native.Nat.{ℕ, zero, suc, ◌+◌, ◌^◌, ◌≤◌, ◌<◌}
 use native.Mathlib.Nat.{pow-le-pow_right}
 use native.Mathlib.Omega.{arith}
@@ -59,39 +59,39 @@ is_variable_lem (Int v) = inr (λ h. h)
 is_variable_lem (Head f n) = inr (λ h. h)
 is_variable_lem (Argument r) = inr (λ h. h)
 
-module _ (c : Copy) (names : (r : Ref) (w : Cell) → cell_at c r ≡ some w → CellNames c r w) (small : (r s : Ref) → cell_at c r ≡ some (Bound s) → s.address < 2 ^ 28) where
+module _ (c : Copy) (names : (r : Ref) (w : Cell) → cell_at c r ≡ Some w → CellNames c r w) (small : (r s : Ref) → cell_at c r ≡ Some (Bound s) → s.address < 2 ^ 28) where
   -- a reference that no variable stands at is followed no further
-  ends : (j k : ℕ) (s : Ref) (o : Option Cell) → cell_at c s ≡ o → ((w : Cell) → o ≡ some w → IsVariable w → ⊥) → 1 ≤ j → 1 ≤ k → follow j c s ≡ follow k c s
+  ends : (j k : ℕ) (s : Ref) (o : Option Cell) → cell_at c s ≡ o → ((w : Cell) → o ≡ Some w → IsVariable w → ⊥) → 1 ≤ j → 1 ≤ k → follow j c s ≡ follow k c s
   unfolding follow on_cell IsVariable
   ends zero k s o e v x y = absurd (omega arith)
   ends (suc j) zero s o e v x y = absurd (omega arith)
-  ends (suc j) (suc k) s none e v x y = rw e
-  ends (suc j) (suc k) s (some Unbound) e v x y = absurd (v Unbound refl tt)
-  ends (suc j) (suc k) s (some (Bound t)) e v x y = absurd (v (Bound t) refl tt)
-  ends (suc j) (suc k) s (some (Int u)) e v x y = rw e
-  ends (suc j) (suc k) s (some (Head f n)) e v x y = rw e
-  ends (suc j) (suc k) s (some (Argument t)) e v x y = rw e
+  ends (suc j) (suc k) s None e v x y = rw e
+  ends (suc j) (suc k) s (Some Unbound) e v x y = absurd (v Unbound refl tt)
+  ends (suc j) (suc k) s (Some (Bound t)) e v x y = absurd (v (Bound t) refl tt)
+  ends (suc j) (suc k) s (Some (Int u)) e v x y = rw e
+  ends (suc j) (suc k) s (Some (Head f n)) e v x y = rw e
+  ends (suc j) (suc k) s (Some (Argument t)) e v x y = rw e
 
   -- the cell after a bound variable: another variable, of lower rank, or the end
-  next : (j k : ℕ) (r s : Ref) → cell_at c r ≡ some (Bound s) → 1 ≤ j → 1 ≤ k → ((rank s < rank r) → follow j c s ≡ follow k c s) →
+  next : (j k : ℕ) (r s : Ref) → cell_at c r ≡ Some (Bound s) → 1 ≤ j → 1 ≤ k → ((rank s < rank r) → follow j c s ≡ follow k c s) →
       (o : Option Cell) → cell_at c s ≡ o → follow j c s ≡ follow k c s
   unfolding CellNames
-  next j k r s e x y ih none q = ends j k s none q (λ w z v. none-ne-some w z) x y
-  next j k r s e x y ih (some w) q = by (is_variable_lem w)
+  next j k r s e x y ih None q = ends j k s None q (λ w z v. None-ne-Some w z) x y
+  next j k r s e x y ih (Some w) q = by (is_variable_lem w)
     where
       by : IsVariable w ⊎ (IsVariable w → ⊥) → follow j c s ≡ follow k c s
       by (inl v) = ih (rank_falls r s ((names r (Bound s) e).1 w q v) (small r s e))
-      by (inr n) = ends j k s (some w) q (λ u z v. n (subst IsVariable (sym (some-injective w u z)) v)) x y
+      by (inr n) = ends j k s (Some w) q (λ u z v. n (subst IsVariable (sym (Some-injective w u z)) v)) x y
 
   first : (j k : ℕ) (r : Ref) → 1 ≤ j → 1 ≤ k → ((s : Ref) → rank s < rank r → follow j c s ≡ follow k c s) → (o : Option Cell) → cell_at c r ≡ o →
       on_cell r o (λ s. follow j c s) ≡ on_cell r o (λ s. follow k c s)
   unfolding on_cell
-  first j k r x y ih none e = refl
-  first j k r x y ih (some Unbound) e = refl
-  first j k r x y ih (some (Bound s)) e = next j k r s e x y (ih s) (cell_at c s) refl
-  first j k r x y ih (some (Int v)) e = refl
-  first j k r x y ih (some (Head f n)) e = refl
-  first j k r x y ih (some (Argument s)) e = refl
+  first j k r x y ih None e = refl
+  first j k r x y ih (Some Unbound) e = refl
+  first j k r x y ih (Some (Bound s)) e = next j k r s e x y (ih s) (cell_at c s) refl
+  first j k r x y ih (Some (Int v)) e = refl
+  first j k r x y ih (Some (Head f n)) e = refl
+  first j k r x y ih (Some (Argument s)) e = refl
 
   -- with at least two more than the rank, any number will do
   enough : (n j k : ℕ) (r : Ref) → rank r ≤ n → n + 2 ≤ j → n + 2 ≤ k → follow j c r ≡ follow k c r
@@ -131,28 +131,28 @@ Ends (Argument r) = ⊥
 pub dead_not_at : (r : Ref) (w : Cell) → Dead ≡ At r w → ⊥
 dead_not_at r w e = let z : ◌≡◌ {A = ℕ} 0 1 = cc in omega arith
 
-at_here : (c : Copy) (r s : Ref) (v w : Cell) → cell_at c r ≡ some v → Ends v → At r v ≡ At s w → (cell_at c s ≡ some w) × Ends w
+at_here : (c : Copy) (r s : Ref) (v w : Cell) → cell_at c r ≡ Some v → Ends v → At r v ≡ At s w → (cell_at c s ≡ Some w) × Ends w
 at_here c r s v w e k q =
     let a : r ≡ s = cc in
     let b : v ≡ w = cc in
-    (subst (λ (x : Ref). cell_at c x ≡ some w) a (e ∙ ap some b), subst Ends b k)
+    (subst (λ (x : Ref). cell_at c x ≡ Some w) a (e ∙ ap Some b), subst Ends b k)
 
-follow_at : (k : ℕ) (c : Copy) (r s : Ref) (w : Cell) → follow k c r ≡ At s w → (cell_at c s ≡ some w) × Ends w
+follow_at : (k : ℕ) (c : Copy) (r s : Ref) (w : Cell) → follow k c r ≡ At s w → (cell_at c s ≡ Some w) × Ends w
 unfolding follow on_cell Ends
 follow_at zero c r s w e = absurd (dead_not_at s w e)
 follow_at (suc k) c r s w e = by (cell_at c r) refl e (λ t. follow_at k c t s w)
   where
     by : (o : Option Cell) → cell_at c r ≡ o → on_cell r o (λ t. follow k c t) ≡ At s w →
-        ((t : Ref) → follow k c t ≡ At s w → (cell_at c s ≡ some w) × Ends w) → (cell_at c s ≡ some w) × Ends w
-    by none q h ih = absurd (dead_not_at s w h)
-    by (some Unbound) q h ih = at_here c r s Unbound w q tt h
-    by (some (Bound t)) q h ih = ih t h
-    by (some (Int v)) q h ih = at_here c r s (Int v) w q tt h
-    by (some (Head f n)) q h ih = at_here c r s (Head f n) w q tt h
-    by (some (Argument t)) q h ih = absurd (dead_not_at s w h)
+        ((t : Ref) → follow k c t ≡ At s w → (cell_at c s ≡ Some w) × Ends w) → (cell_at c s ≡ Some w) × Ends w
+    by None q h ih = absurd (dead_not_at s w h)
+    by (Some Unbound) q h ih = at_here c r s Unbound w q tt h
+    by (Some (Bound t)) q h ih = ih t h
+    by (Some (Int v)) q h ih = at_here c r s (Int v) w q tt h
+    by (Some (Head f n)) q h ih = at_here c r s (Head f n) w q tt h
+    by (Some (Argument t)) q h ih = absurd (dead_not_at s w h)
 
 -- deref ends at a cell of tag 1, 3 or 4
-pub deref_at : (c : Copy) (r s : Ref) (w : Cell) → deref c r ≡ At s w → (cell_at c s ≡ some w) × Ends w
+pub deref_at : (c : Copy) (r s : Ref) (w : Cell) → deref c r ≡ At s w → (cell_at c s ≡ Some w) × Ends w
 unfolding deref
 deref_at c r s w e = follow_at (rank r + 2) c r s w e
 
@@ -168,7 +168,7 @@ ends_start (Int v) h = tt
 ends_start (Head f n) h = tt
 ends_start (Argument r) h = h
 
-pub end_names : (c : Copy) (r : Ref) (w : Cell) → cell_at c r ≡ some w → Ends w → Names c r
+pub end_names : (c : Copy) (r : Ref) (w : Cell) → cell_at c r ≡ Some w → Ends w → Names c r
 unfolding Names
 end_names c r w e k h = (w, e, ends_start w k)
 
@@ -188,9 +188,9 @@ module _ (l : Limits) (next : ℕ) (c : Copy) (ok : CopyOk l next c) where
       after q = record { stamp = q.stamp; address = suc q.address }
 
       by : (o : Option Cell) → cell_at c (after r) ≡ o → Each (GoodRef l next c) (arguments_at n c (after r)) → Each (GoodRef l next c) (on_argument o (arguments_at n c (after r)))
-      by none q ih = tt
-      by (some Unbound) q ih = tt
-      by (some (Bound s)) q ih = tt
-      by (some (Int v)) q ih = tt
-      by (some (Head f k)) q ih = tt
-      by (some (Argument s)) q ih = ((cell_in l next c ok (after r) (Argument s) q, ok.cells_name (after r) (Argument s) q), ih)
+      by None q ih = tt
+      by (Some Unbound) q ih = tt
+      by (Some (Bound s)) q ih = tt
+      by (Some (Int v)) q ih = tt
+      by (Some (Head f k)) q ih = tt
+      by (Some (Argument s)) q ih = ((cell_in l next c ok (after r) (Argument s) q, ok.cells_name (after r) (Argument s) q), ih)

@@ -4,7 +4,8 @@ use mathlib.Core.Bool.{true, false, not, true≢false}
 use mathlib.Core.Logic.{◌⊎◌, inl, inr}
 use mathlib.Core.List.Memᴰ
 use mathlib.Core.List.{List, [], ◌∷◌, Memᴰ}
-use mathlib.Core.Option.{some, none-ne-some, some-injective}
+use Rattle.std.specs.Prelude.{Some}
+use Rattle.laws.proofs.Options.{None-ne-Some, Some-injective}
 use Prim.Native.Nat.{ℕ, zero, suc, ◌+◌, ◌≤◌, ◌<◌}
 use native.Mathlib.Omega.{arith}
 use Rattle.laws.specs.Base.{some_of, from}
@@ -20,12 +21,12 @@ from_in (suc k) n p m = by (Memᴰ.cases_cons m) (λ h. from_in k (suc n) p h)
     by (inl e) ih = omega arith
     by (inr h) ih = omega (arith, ih h)
 
-lowest_in : (l : List ℕ) (p : ℕ) → lowest l ≡ some p → Memᴰ p l
-lowest_in [] p e = absurd (none-ne-some p e)
-lowest_in (q ∷ qs) p e = Memᴰ.head (sym (some-injective q p e))
+lowest_in : (l : List ℕ) (p : ℕ) → lowest l ≡ Some p → Memᴰ p l
+lowest_in [] p e = absurd (None-ne-Some p e)
+lowest_in (q ∷ qs) p e = Memᴰ.head (sym (Some-injective q p e))
 
 -- the page that a step takes was held by no copy
-pub lowest_free_lem : (m : Machine) (p : ℕ) → lowest (free m) ≡ some p → (held m p ≡ false) × PageIn m.limits p
+pub lowest_free_lem : (m : Machine) (p : ℕ) → lowest (free m) ≡ Some p → (held m p ≡ false) × PageIn m.limits p
 unfolding free
 lowest_free_lem m p e =
     let k = kept_at (λ q. not (held m q)) (from m.limits.pages m.limits.first) p (lowest_in (free m) p e) in

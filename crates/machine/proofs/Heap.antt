@@ -1,11 +1,10 @@
 -- Document 01's heap image, word by word: each word is the one in the newest copy that holds its page.
-use Rattle.std.specs.Prelude.{if◌then◌else◌}
+use Rattle.std.specs.Prelude.{if◌then◌else◌, None}
 use mathlib.Core.Path.{◌≡◌, refl, sym, ap, ◌∙◌, subst}
 use mathlib.Core.Bool.{Bool, true, false, not, true≢false}
 use mathlib.Core.Logic.{◌≢◌, ◌⊎◌, inl, inr}
 use mathlib.Core.List.Memᴰ
 use mathlib.Core.List.{List, [], ◌∷◌, ◌++◌, map, Memᴰ}
-use mathlib.Core.Option.{none}
 use Prim.Native.Nat.{ℕ, zero, suc, ◌+◌, ◌-◌, ◌*◌, ◌/◌, ◌%◌, ◌≤◌, ◌<◌}
 use native.Mathlib.Omega.{arith}
 use lib.Dec.{leb, eqb}
@@ -51,7 +50,7 @@ page_16 l next k gs ok n = by (spot k gs n)
     by : Spot k gs n → length (page_image k gs n) ≡ 16
     by (free z e) = ap length e
     by (held h e) =
-        let p : PageOk l next h.page = each_at (PageOk l next) h.region.pages (ok h.region h.among).pages h.page (lies_mem n none h.region.pages h.next h.page h.lies) in
+        let p : PageOk l next h.page = each_at (PageOk l next) h.region.pages (ok h.region h.among).pages h.page (lies_mem n None h.region.pages h.next h.page h.lies) in
         let ws = h.page.words in
         omega (arith, ap length e, p.fill, length-append (map (cell_word k) ws) (replicate (15 - length ws) 0), length-map ws (cell_word k), length-replicate {A = ℕ} (15 - length ws) 0)
 
@@ -83,10 +82,10 @@ module _ (k : ℕ) (gs : List Region) (len : (n : ℕ) → length (page_image k 
 
 module _ (k n : ℕ) where
   -- the page is not in the first region, or it is, there
-  first_off : (g : Region) (gs : List Region) → (Home (g ∷ gs) n → ⊥) → in_chain k n g.stamp none g.pages ≡ none
-  first_off g gs z = by (chain_of k n g.stamp none g.pages)
+  first_off : (g : Region) (gs : List Region) → (Home (g ∷ gs) n → ⊥) → in_chain k n g.stamp None g.pages ≡ None
+  first_off g gs z = by (chain_of k n g.stamp None g.pages)
     where
-      by : Chained k n g.stamp none g.pages → in_chain k n g.stamp none g.pages ≡ none
+      by : Chained k n g.stamp None g.pages → in_chain k n g.stamp None g.pages ≡ None
       by (chained j p h i) = absurd (z (record { region = g; among = Memᴰ.head refl; next = j; page = p; lies = h }))
       by (unchained f i) = i
 
@@ -98,22 +97,22 @@ module _ (k n : ℕ) where
   append_held : (a b : List Region) → Home a n → page_image k (a ++ b) n ≡ page_image k a n
   unfolding page_image or_else
   append_held [] b h = absurd (Memᴰ.not-nil h.among)
-  append_held (g ∷ gs) b h = by (chain_of k n g.stamp none g.pages) (Memᴰ.cases_cons h.among) (λ m. append_held gs b (moved gs h m))
+  append_held (g ∷ gs) b h = by (chain_of k n g.stamp None g.pages) (Memᴰ.cases_cons h.among) (λ m. append_held gs b (moved gs h m))
     where
-      by : Chained k n g.stamp none g.pages → (h.region ≡ g) ⊎ Memᴰ h.region gs → (Memᴰ h.region gs → page_image k (gs ++ b) n ≡ page_image k gs n) →
-          or_else (in_chain k n g.stamp none g.pages) (page_image k (gs ++ b) n) ≡ or_else (in_chain k n g.stamp none g.pages) (page_image k gs n)
+      by : Chained k n g.stamp None g.pages → (h.region ≡ g) ⊎ Memᴰ h.region gs → (Memᴰ h.region gs → page_image k (gs ++ b) n ≡ page_image k gs n) →
+          or_else (in_chain k n g.stamp None g.pages) (page_image k (gs ++ b) n) ≡ or_else (in_chain k n g.stamp None g.pages) (page_image k gs n)
       by (chained j q x i) e ih = rw i
-      by (unchained f i) (inl e) ih = absurd (f h.next h.page (subst (λ (x : Region). Lies n none x.pages h.next h.page) e h.lies))
+      by (unchained f i) (inl e) ih = absurd (f h.next h.page (subst (λ (x : Region). Lies n None x.pages h.next h.page) e h.lies))
       by (unchained f i) (inr m) ih = rw i (ih m)
 
   keep_free : (f : Region → Bool) (l : List Region) → ((h : Home l n) → f h.region ≡ false → ⊥) → page_image k (keep f l) n ≡ page_image k l n
   unfolding page_image or_else
   keep_free f [] z = refl
-  keep_free f (g ∷ gs) z = by (f g) refl (chain_of k n g.stamp none g.pages) (keep_free f gs (λ h. z (moved (g ∷ gs) h (Memᴰ.tail h.among))))
+  keep_free f (g ∷ gs) z = by (f g) refl (chain_of k n g.stamp None g.pages) (keep_free f gs (λ h. z (moved (g ∷ gs) h (Memᴰ.tail h.among))))
     where
-      by : (t : Bool) → f g ≡ t → Chained k n g.stamp none g.pages → page_image k (keep f gs) n ≡ page_image k gs n →
-          page_image k (if t then g ∷ keep f gs else keep f gs) n ≡ or_else (in_chain k n g.stamp none g.pages) (page_image k gs n)
-      by true e c ih = ap (or_else (in_chain k n g.stamp none g.pages)) ih
+      by : (t : Bool) → f g ≡ t → Chained k n g.stamp None g.pages → page_image k (keep f gs) n ≡ page_image k gs n →
+          page_image k (if t then g ∷ keep f gs else keep f gs) n ≡ or_else (in_chain k n g.stamp None g.pages) (page_image k gs n)
+      by true e c ih = ap (or_else (in_chain k n g.stamp None g.pages)) ih
       by false e (chained j p h i) ih = absurd (z (record { region = g; among = Memᴰ.head refl; next = j; page = p; lies = h }) e)
       by false e (unchained x i) ih = rw i ih
 

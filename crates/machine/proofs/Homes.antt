@@ -3,7 +3,8 @@ use mathlib.Core.Path.{◌≡◌, refl, sym, ap, ◌∙◌, subst}
 use mathlib.Core.Bool.{true, false}
 use mathlib.Core.Logic.{◌≢◌, ◌⊎◌, inl, inr}
 use mathlib.Core.List.{List, [], Memᴰ}
-use mathlib.Core.Option.{Option, none, some, none-ne-some}
+use Rattle.std.specs.Prelude.{Option, Some, None}
+use Rattle.laws.proofs.Options.{None-ne-Some}
 use Prim.Native.Nat.{ℕ, ◌*◌, ◌/◌, ◌%◌, ◌^◌, ◌<◌}
 use native.Mathlib.Omega.{arith}
 use lib.ListN.{get_or, replicate}
@@ -46,11 +47,11 @@ pub free_link : (k : ℕ) (gs : List Region) (n : ℕ) → page_image k gs n ≡
 free_link k gs n e = at_link k gs n ∙ ap (λ (l : List ℕ). get_or l 0 0) e
 
 -- the page that joined after it is in the region too
-pub after : {gs : List Region} {n : ℕ} (h : Home gs n) (q : ℕ) → h.next ≡ some q → (i : Home gs q) × (i.region ≡ h.region)
-after {gs} {n} h q e = by (lies_next n none h.region.pages q h.page (subst (λ (j : Option ℕ). Lies n none h.region.pages j h.page) e h.lies))
+pub after : {gs : List Region} {n : ℕ} (h : Home gs n) (q : ℕ) → h.next ≡ Some q → (i : Home gs q) × (i.region ≡ h.region)
+after {gs} {n} h q e = by (lies_next n None h.region.pages q h.page (subst (λ (j : Option ℕ). Lies n None h.region.pages j h.page) e h.lies))
   where
-    by : (none ≡ some q) ⊎ ((j : Option ℕ) × (r : Page) × Lies q none h.region.pages j r) → (i : Home gs q) × (i.region ≡ h.region)
-    by (inl z) = absurd (none-ne-some q z)
+    by : (None ≡ Some q) ⊎ ((j : Option ℕ) × (r : Page) × Lies q None h.region.pages j r) → (i : Home gs q) × (i.region ≡ h.region)
+    by (inl z) = absurd (None-ne-Some q z)
     by (inr r) = (record { region = h.region; among = h.among; next = r.0; page = r.1; lies = r.2 }, refl)
 
 -- the width of a machine's addresses, and the word at an address in a copy
@@ -90,10 +91,10 @@ module _ (m : Machine) (s : Sound m) where
 
     pub page_ok_lem : {n : ℕ} (h : Home c.regions n) → PageOk m.limits m.next h.page
     page_ok_lem {n} h =
-        each_at (PageOk m.limits m.next) h.region.pages (region_ok_lem h.region h.among).pages h.page (lies_mem n none h.region.pages h.next h.page h.lies)
+        each_at (PageOk m.limits m.next) h.region.pages (region_ok_lem h.region h.among).pages h.page (lies_mem n None h.region.pages h.next h.page h.lies)
 
     pub page_in_lem : {n : ℕ} (h : Home c.regions n) → PageIn m.limits n
-    page_in_lem {n} h = subst (PageIn m.limits) (lies_number n none h.region.pages h.next h.page h.lies) (page_ok_lem h).number
+    page_in_lem {n} h = subst (PageIn m.limits) (lies_number n None h.region.pages h.next h.page h.lies) (page_ok_lem h).number
 
     -- its stamp, its cells and the page after it have room in words
     pub stamp_fit : {n : ℕ} (h : Home c.regions n) → h.region.stamp < 2 ^ 32
@@ -108,8 +109,8 @@ module _ (m : Machine) (s : Sound m) where
     next_fit h = by h.next refl
       where
         by : (j : Option ℕ) → h.next ≡ j → NextFits (width m) j
-        by none e = tt
-        by (some q) e = page_fits m.limits s.limits q (page_in_lem (after h q e).0)
+        by None e = tt
+        by (Some q) e = page_fits m.limits s.limits q (page_in_lem (after h q e).0)
 
     -- a page of a sound copy stands in one region, once
     pub one_home : {n : ℕ} (h i : Home c.regions n) → (h.region ≡ i.region) × (h.next ≡ i.next) × (h.page ≡ i.page)
@@ -117,8 +118,8 @@ module _ (m : Machine) (s : Sound m) where
     one_home {n} h i =
         let r : h.region ≡ i.region = one_region c.regions copy_ok.in_order h.region i.region h.among i.among
         (s.apart c c x x h.region i.region n h.among i.among (home_lists h) (home_lists i)) in
-        let o = lies_once n none i.region.pages h.next i.next h.page i.page (region_ok_lem i.region i.among).no_page_twice
-        (subst (λ (g : Region). Lies n none g.pages h.next h.page) r h.lies) i.lies in
+        let o = lies_once n None i.region.pages h.next i.next h.page i.page (region_ok_lem i.region i.among).no_page_twice
+        (subst (λ (g : Region). Lies n None g.pages h.next h.page) r h.lies) i.lies in
         (r, o.0, o.1)
 
     -- so what stands there is what the copy shows of the page
@@ -136,10 +137,10 @@ module _ (m : Machine) (s : Sound m) where
     home_filled h e = link_filled (width m) s.limits.least s.limits.most h.region.stamp h.next (sym (link_home h) ∙ e)
 
     -- its link has turned exactly if there is a page after it
-    pub link_last : {n : ℕ} (h : Home c.regions n) → h.next ≡ none → turned (word_of m c (n * 16)) ≡ false
+    pub link_last : {n : ℕ} (h : Home c.regions n) → h.next ≡ None → turned (word_of m c (n * 16)) ≡ false
     link_last h e = ap turned (link_home h ∙ ap (link_word (width m) h.region.stamp) e) ∙ link_plain (width m) s.limits.least s.limits.most h.region.stamp (stamp_fit h)
 
-    pub link_joined : {n : ℕ} (h : Home c.regions n) (q : ℕ) → h.next ≡ some q → turned (word_of m c (n * 16)) ≡ true
+    pub link_joined : {n : ℕ} (h : Home c.regions n) (q : ℕ) → h.next ≡ Some q → turned (word_of m c (n * 16)) ≡ true
     unfolding NextFits
     link_joined h q e =
         ap turned (link_home h ∙ ap (link_word (width m) h.region.stamp) e)

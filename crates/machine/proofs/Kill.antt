@@ -1,10 +1,10 @@
 -- Op 2: a region leaves the present copy, and the machine stays sound. What named it is dead.
-use Rattle.std.specs.Prelude.{if◌then◌else◌}
+use Rattle.std.specs.Prelude.{if◌then◌else◌, Option, Some, None}
 use mathlib.Core.Path.{◌≡◌, refl, sym, ◌∙◌}
 use mathlib.Core.Bool.{Bool, true, false, not}
 use mathlib.Core.Logic.{◌≢◌, inl}
 use mathlib.Core.List.{List, [], ◌∷◌}
-use mathlib.Core.Option.{Option, none, some, none-ne-some}
+use Rattle.laws.proofs.Options.{None-ne-Some}
 use Prim.Native.Nat.{ℕ, ◌<◌}
 use lib.Dec.{eqb}
 use borrow.Author.Tests.{ne_eqb, eqb-true, eqb-false}
@@ -46,21 +46,21 @@ module _ (c : Copy) (t : ℕ) where
       by true e ih = rw (ne_eqb g.stamp r.stamp (λ q. n (sym q ∙ eqb-true g.stamp t e))) ih
       by false e ih = rw ih
 
-  no_cell : (gs : List Region) (r : Ref) → r.stamp ≡ t → in_regions (keep other gs) r ≡ none
+  no_cell : (gs : List Region) (r : Ref) → r.stamp ≡ t → in_regions (keep other gs) r ≡ None
   unfolding in_regions
   no_cell [] r q = refl
   no_cell (g ∷ gs) r q = by (eqb g.stamp t) refl (no_cell gs r q)
     where
-      by : (b : Bool) → eqb g.stamp t ≡ b → in_regions (keep other gs) r ≡ none → in_regions (if not b then g ∷ keep other gs else keep other gs) r ≡ none
+      by : (b : Bool) → eqb g.stamp t ≡ b → in_regions (keep other gs) r ≡ None → in_regions (if not b then g ∷ keep other gs else keep other gs) r ≡ None
       by true e ih = ih
       by false e ih = rw (ne_eqb g.stamp r.stamp (λ z. eqb-false g.stamp t e (z ∙ q))) ih
 
   -- a cell that is still there was there
-  was_cell : (r : Ref) (w : Cell) → cell_at killed r ≡ some w → cell_at c r ≡ some w
+  was_cell : (r : Ref) (w : Cell) → cell_at killed r ≡ Some w → cell_at c r ≡ Some w
   was_cell r w e = by (eqb r.stamp t) refl
     where
-      by : (b : Bool) → eqb r.stamp t ≡ b → cell_at c r ≡ some w
-      by true q = absurd (none-ne-some w (sym (no_cell c.regions r (eqb-true r.stamp t q)) ∙ e))
+      by : (b : Bool) → eqb r.stamp t ≡ b → cell_at c r ≡ Some w
+      by true q = absurd (None-ne-Some w (sym (no_cell c.regions r (eqb-true r.stamp t q)) ∙ e))
       by false q = sym (same_cell c.regions r (eqb-false r.stamp t q)) ∙ e
 
   still_names : (r : Ref) → Names c r → Names killed r
@@ -95,5 +95,5 @@ unfolding exec kill
 exec_kill m a s = by (region_at m.present a)
   where
     by : (o : Option Region) → Sound (within m (kill m.present o)).machine
-    by none = s
-    by (some g) = onward_sound m g.stamp (killed m.present g.stamp) s (killed_onward m g.stamp s)
+    by None = s
+    by (Some g) = onward_sound m g.stamp (killed m.present g.stamp) s (killed_onward m g.stamp s)

@@ -1,11 +1,10 @@
 -- Op 1: a region of the next stamp joins the present copy, and the machine stays sound. Its page was free, and it has no words yet.
-use Rattle.std.specs.Prelude.{if◌then◌else◌}
+use Rattle.std.specs.Prelude.{if◌then◌else◌, Option, Some, None}
 use mathlib.Core.Path.{◌≡◌, refl, sym, ap, ◌∙◌, subst}
 use mathlib.Core.Bool.{Bool, true, false}
 use mathlib.Core.Logic.{◌⊎◌, inl, inr, ◌≢◌}
 use mathlib.Core.List.Memᴰ
 use mathlib.Core.List.{List, [], ◌∷◌, ◌++◌, Memᴰ, Nodup-cons, Nodup-nil, not-mem-nil}
-use mathlib.Core.Option.{Option, none, some}
 use Prim.Native.Nat.{ℕ, zero, suc, ◌/◌, ◌%◌, ◌≤◌, ◌<◌}
 use native.Mathlib.Omega.{arith}
 use lib.Dec.{eqb, leb}
@@ -77,16 +76,16 @@ module _ (s p : ℕ) where
   abbrev fresh : Region
   fresh = record { stamp = s; pages = record { number = p; words = [] } ∷ [] }
 
-  no_word : (i : ℕ) → word [] i ≡ none
+  no_word : (i : ℕ) → word [] i ≡ None
   unfolding word
   no_word zero = refl
   no_word (suc i) = refl
 
-  no_cell : (a : ℕ) → in_pages fresh.pages a ≡ none
+  no_cell : (a : ℕ) → in_pages fresh.pages a ≡ None
   unfolding in_pages
   no_cell a = by (eqb p (a / 16))
     where
-      by : (b : Bool) → (if b then word [] (a % 16) else none) ≡ none
+      by : (b : Bool) → (if b then word [] (a % 16) else None) ≡ None
       by true = no_word (a % 16)
       by false = refl
 
@@ -95,7 +94,7 @@ module _ (s p : ℕ) where
   unfolding in_regions
   same_cell [] r = by (eqb s r.stamp)
     where
-      by : (b : Bool) → (if b then in_pages fresh.pages r.address else none) ≡ none
+      by : (b : Bool) → (if b then in_pages fresh.pages r.address else None) ≡ None
       by true = no_cell r.address
       by false = refl
   same_cell (g ∷ gs) r = rw (same_cell gs r)
@@ -190,7 +189,7 @@ module _ (m : Machine) (d p : ℕ) (s : Sound m) (unheld : held m p ≡ false) w
       let n : p ≡ q = own_page m.next p q (subst (λ (z : Region). lists q z ≡ true) e l) in
       inr (subst (λ (z : ℕ). held m z ≡ false) n unheld, ap (λ (z : Region). z.stamp) e)
 
-  made_sound : PageIn m.limits p → m.next ≢ last_stamp → slots m < m.limits.slots → Sound (new_region m d (some p)).machine
+  made_sound : PageIn m.limits p → m.next ≢ last_stamp → slots m < m.limits.slots → Sound (new_region m d (Some p)).machine
   unfolding new_region
   made_sound b n room =
       joined_sound m (suc m.next) (m.next ∷ []) m.next (made m d p) s
@@ -212,7 +211,7 @@ exec_make m d s = by (eqb m.next last_stamp) (leb m.limits.slots (slots m)) (low
         Sound (if last then refused m 7 else if full then refused m 6 else new_region m d page).machine
     by true full page e f g = s
     by false true page e f g = s
-    by false false none e f g = s
-    by false false (some p) e f g =
+    by false false None e f g = s
+    by false false (Some p) e f g =
         let k = lowest_free_lem m p g in
         made_sound m d p s k.0 k.1 (eqb-false m.next last_stamp e) (leb-false m.limits.slots (slots m) f)

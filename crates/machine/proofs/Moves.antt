@@ -1,9 +1,8 @@
 -- What each step does to the limits, the saved copies and the counter, by its event.
-use Rattle.std.specs.Prelude.{if◌then◌else◌}
+use Rattle.std.specs.Prelude.{if◌then◌else◌, Option, Some, None}
 use mathlib.Core.Path.{◌≡◌, refl, ap}
 use mathlib.Core.Bool.{Bool, true, false}
 use mathlib.Core.List.{List, [], ◌∷◌}
-use mathlib.Core.Option.{Option, none, some}
 use Prim.Native.Nat.{ℕ, suc}
 use lib.Dec.{leb, eqb}
 use lib.ListN.{length}
@@ -31,8 +30,8 @@ moves_make : (m : Machine) (d : ℕ) (last full : Bool) (p : Option ℕ) → Mov
 unfolding event_of new_region
 moves_make m d true full p = (refl, refl, refl)
 moves_make m d false true p = (refl, refl, refl)
-moves_make m d false false none = (refl, refl, refl)
-moves_make m d false false (some p) = (refl, refl, refl, refl)
+moves_make m d false false None = (refl, refl, refl)
+moves_make m d false false (Some p) = (refl, refl, refl, refl)
 
 moves_push : (m : Machine) (full : Bool) → Moved m PushChoice (if full then refused m 8 else record { answer = plain 0; machine = machine_of m.limits m.present (m.present ∷ m.saved) m.next })
 unfolding event_of

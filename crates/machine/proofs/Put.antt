@@ -1,17 +1,17 @@
 -- A term is put into a region: it goes behind the words of the newest page; where it does not fit there, an empty page joins first.
-use Rattle.std.specs.Prelude.{if◌then◌else◌}
+use Rattle.std.specs.Prelude.{if◌then◌else◌, Option, Some, None, slice_get}
 use mathlib.Core.Path.{◌≡◌, refl, sym, ap, ◌∙◌, subst}
 use mathlib.Core.Bool.{Bool, true, false, ◌||◌}
 use mathlib.Core.Logic.{◌⊎◌, inl, inr, ∥∥₁_elim}
 use mathlib.Core.HLevel.{⊥_prop}
 use mathlib.Core.List.{List, [], ◌∷◌, ◌++◌, map, Memᴰ, Nodup, Nodup-cons}
-use mathlib.Core.Option.{Option, none, some, none-ne-some, some-injective}
+use Rattle.laws.proofs.Options.{None-ne-Some, Some-injective}
 use Prim.Native.Nat.{ℕ, zero, suc, ◌+◌, ◌*◌, ◌/◌, ◌%◌, ◌≤◌, ◌<◌}
 use native.Mathlib.Nat.{zero-add, suc-add}
 use native.Mathlib.Omega.{arith}
 use lib.Dec.{leb, eqb}
 use borrow.Author.Tests.{eq-eqb, eqb-true, leb-true}
-use lib.ListN.{length, get_elem?, length-append}
+use lib.ListN.{length, length-append}
 use Rattle.laws.specs.Base.{some_of, Each}
 use Rattle.laws.proofs.Lists.{each_append, some_yes, mem_map}
 use Rattle.words.specs.declared.Cell.{Cell}
@@ -23,32 +23,32 @@ use Rattle.machine.proofs.Cells.{word_found, page_found}
 
 -- ---- words behind words
 
-at_left : (vs ws : List Cell) (i : ℕ) (w : Cell) → get_elem? vs i ≡ some w → get_elem? (vs ++ ws) i ≡ some w
-at_left [] ws i w e = absurd (none-ne-some w e)
+at_left : (vs ws : List Cell) (i : ℕ) (w : Cell) → slice_get vs i ≡ Some w → slice_get (vs ++ ws) i ≡ Some w
+at_left [] ws i w e = absurd (None-ne-Some w e)
 at_left (v ∷ vs) ws zero w e = e
 at_left (v ∷ vs) ws (suc i) w e = at_left vs ws i w e
 
-at_right : (vs ws : List Cell) (i : ℕ) → get_elem? (vs ++ ws) (length vs + i) ≡ get_elem? ws i
+at_right : (vs ws : List Cell) (i : ℕ) → slice_get (vs ++ ws) (length vs + i) ≡ slice_get ws i
 at_right [] ws i = rw zero-add
 at_right (v ∷ vs) ws i = rw suc-add (at_right vs ws i)
 
-at_back : (vs ws : List Cell) (i : ℕ) (w : Cell) → get_elem? (vs ++ ws) i ≡ some w → (get_elem? vs i ≡ some w) ⊎ Memᴰ w ws
+at_back : (vs ws : List Cell) (i : ℕ) (w : Cell) → slice_get (vs ++ ws) i ≡ Some w → (slice_get vs i ≡ Some w) ⊎ Memᴰ w ws
 unfolding word
 at_back [] ws i w e = inr (word_found ws (suc i) w e).1
 at_back (v ∷ vs) ws zero w e = inl e
 at_back (v ∷ vs) ws (suc i) w e = at_back vs ws i w e
 
-word_kept : (vs ws : List Cell) (i : ℕ) (w : Cell) → word vs i ≡ some w → word (vs ++ ws) i ≡ some w
+word_kept : (vs ws : List Cell) (i : ℕ) (w : Cell) → word vs i ≡ Some w → word (vs ++ ws) i ≡ Some w
 unfolding word
 word_kept vs ws zero w e = e
 word_kept vs ws (suc i) w e = at_left vs ws i w e
 
-word_back : (vs ws : List Cell) (i : ℕ) (w : Cell) → word (vs ++ ws) i ≡ some w → (word vs i ≡ some w) ⊎ Memᴰ w ws
+word_back : (vs ws : List Cell) (i : ℕ) (w : Cell) → word (vs ++ ws) i ≡ Some w → (word vs i ≡ Some w) ⊎ Memᴰ w ws
 unfolding word
 word_back vs ws zero w e = inl e
 word_back vs ws (suc i) w e = at_back vs ws i w e
 
-word_none : (i : ℕ) → word [] i ≡ none
+word_none : (i : ℕ) → word [] i ≡ None
 unfolding word
 word_none zero = refl
 word_none (suc i) = refl
@@ -80,27 +80,27 @@ abbrev behind : Page → List Cell → Page
 behind p ws = record { number = p.number; words = p.words ++ ws }
 
 -- what was at an address is there still
-page_kept : (p : Page) (qs : List Page) (ws : List Cell) (x : ℕ) (w : Cell) → in_pages (p ∷ qs) x ≡ some w → in_pages (behind p ws ∷ qs) x ≡ some w
+page_kept : (p : Page) (qs : List Page) (ws : List Cell) (x : ℕ) (w : Cell) → in_pages (p ∷ qs) x ≡ Some w → in_pages (behind p ws ∷ qs) x ≡ Some w
 unfolding in_pages
 page_kept p qs ws x w = by (eqb p.number (x / 16))
   where
-    by : (t : Bool) → (if t then word p.words (x % 16) else in_pages qs x) ≡ some w → (if t then word (p.words ++ ws) (x % 16) else in_pages qs x) ≡ some w
+    by : (t : Bool) → (if t then word p.words (x % 16) else in_pages qs x) ≡ Some w → (if t then word (p.words ++ ws) (x % 16) else in_pages qs x) ≡ Some w
     by true e = word_kept p.words ws (x % 16) w e
     by false e = e
 
 -- and what is there now was there, or is one of the new words
-page_back : (p : Page) (qs : List Page) (ws : List Cell) (x : ℕ) (w : Cell) → in_pages (behind p ws ∷ qs) x ≡ some w → (in_pages (p ∷ qs) x ≡ some w) ⊎ Memᴰ w ws
+page_back : (p : Page) (qs : List Page) (ws : List Cell) (x : ℕ) (w : Cell) → in_pages (behind p ws ∷ qs) x ≡ Some w → (in_pages (p ∷ qs) x ≡ Some w) ⊎ Memᴰ w ws
 unfolding in_pages
 page_back p qs ws x w = by (eqb p.number (x / 16))
   where
-    by : (t : Bool) → (if t then word (p.words ++ ws) (x % 16) else in_pages qs x) ≡ some w →
-        ((if t then word p.words (x % 16) else in_pages qs x) ≡ some w) ⊎ Memᴰ w ws
+    by : (t : Bool) → (if t then word (p.words ++ ws) (x % 16) else in_pages qs x) ≡ Some w →
+        ((if t then word p.words (x % 16) else in_pages qs x) ≡ Some w) ⊎ Memᴰ w ws
     by true e = word_back p.words ws (x % 16) w e
     by false e = inl e
 
 -- the new words stand behind the old
 page_new : (p : Page) (qs : List Page) (ws : List Cell) (i : ℕ) → length p.words + i < 15 →
-    in_pages (behind p ws ∷ qs) (p.number * 16 + suc (length p.words) + i) ≡ get_elem? ws i
+    in_pages (behind p ws ∷ qs) (p.number * 16 + suc (length p.words) + i) ≡ slice_get ws i
 unfolding in_pages word
 page_new p qs ws i h =
     let x : ℕ = p.number * 16 + suc (length p.words) + i in
@@ -114,7 +114,7 @@ abbrev numbered : ℕ → Page → Bool
 numbered n q = eqb q.number n
 
 -- an address with a word is on a page of the list
-in_listed : (ps : List Page) (x : ℕ) (w : Cell) → in_pages ps x ≡ some w → some_of (numbered (x / 16)) ps ≡ true
+in_listed : (ps : List Page) (x : ℕ) (w : Cell) → in_pages ps x ≡ Some w → some_of (numbered (x / 16)) ps ≡ true
 in_listed ps x w e = let k = page_found ps x w e in some_yes (numbered (x / 16)) ps k.0 k.1 (eq-eqb k.0.number (x / 16) k.2)
 
 -- the term goes behind the words of p, and qs are the older pages: the region's own pages, or these below a page that joins.
@@ -125,7 +125,7 @@ record Room (l : Limits) (next : ℕ) (page : Option ℕ) (g : Region) (p : Page
   same : (x : ℕ) → in_pages (p ∷ qs) x ≡ in_pages g.pages x
   filled : (q : Page) → 1 ≤ length q.words → Filled (q ∷ qs)
   grown : (ws : List Cell) → RegionGrown g (record { stamp = g.stamp; pages = behind p ws ∷ qs })
-  listed : (n : ℕ) → some_of (numbered n) (p ∷ qs) ≡ true → (lists n g ≡ true) ⊎ (page ≡ some n)
+  listed : (n : ℕ) → some_of (numbered n) (p ∷ qs) ≡ true → (lists n g ≡ true) ⊎ (page ≡ Some n)
 
 -- a page with a word in the newest one's place, or above it
 filled_over : (p : Page) (qs : List Page) → Filled (p ∷ qs) → (q : Page) → 1 ≤ length q.words → Filled (q ∷ qs)
@@ -157,7 +157,7 @@ module _ (l : Limits) (next : ℕ) (g : Region) (ok : RegionOk l next g) where
   }
 
   -- a page that the region did not list joins, empty
-  new_room : (page : Option ℕ) (n : ℕ) → page ≡ some n → PageIn l n → (lists n g ≡ true → ⊥) → Room l next page g (record { number = n; words = [] }) g.pages
+  new_room : (page : Option ℕ) (n : ℕ) → page ≡ Some n → PageIn l n → (lists n g ≡ true → ⊥) → Room l next page g (record { number = n; words = [] }) g.pages
   unfolding Whole in_pages
   new_room page n f i u = record {
     pages = (record { number = i; fill = omega arith; whole = tt; cells = tt }, ok.pages);
@@ -172,12 +172,12 @@ module _ (l : Limits) (next : ℕ) (g : Region) (ok : RegionOk l next g) where
       off h = let k = mem_map (λ (q : Page). q.number) g.pages n h in u (some_yes (numbered n) g.pages k.0 k.1 (eq-eqb k.0.number n (sym k.2)))
 
       at : (x : ℕ) (t : Bool) → eqb n (x / 16) ≡ t → (o : Option Cell) → in_pages g.pages x ≡ o → (if t then word [] (x % 16) else in_pages g.pages x) ≡ in_pages g.pages x
-      at x true e none h = word_none (x % 16) ∙ sym h
-      at x true e (some w) h = absurd (u (subst (λ (k : ℕ). lists k g ≡ true) (sym (eqb-true n (x / 16) e)) (in_listed g.pages x w h)))
+      at x true e None h = word_none (x % 16) ∙ sym h
+      at x true e (Some w) h = absurd (u (subst (λ (k : ℕ). lists k g ≡ true) (sym (eqb-true n (x / 16) e)) (in_listed g.pages x w h)))
       at x false e o h = refl
 
-      by : (k : ℕ) (t : Bool) → eqb n k ≡ t → (t || lists k g) ≡ true → (lists k g ≡ true) ⊎ (page ≡ some k)
-      by k true e h = inr (f ∙ ap some (eqb-true n k e))
+      by : (k : ℕ) (t : Bool) → eqb n k ≡ t → (t || lists k g) ≡ true → (lists k g ≡ true) ⊎ (page ≡ Some k)
+      by k true e h = inr (f ∙ ap Some (eqb-true n k e))
       by k false e h = inl h
 
 -- ---- the region after it
@@ -187,12 +187,12 @@ pub record Added (l : Limits) (next : ℕ) (page : Option ℕ) (ws : List Cell) 
   pub region : RegionOk l next (record { stamp = g.stamp; pages = u.pages })
   pub grown : RegionGrown g (record { stamp = g.stamp; pages = u.pages })
   -- it lists no page but its own and the one that joined
-  pub listed : (n : ℕ) → lists n (record { stamp = g.stamp; pages = u.pages }) ≡ true → (lists n g ≡ true) ⊎ (page ≡ some n)
+  pub listed : (n : ℕ) → lists n (record { stamp = g.stamp; pages = u.pages }) ≡ true → (lists n g ≡ true) ⊎ (page ≡ Some n)
   -- each old word stands where it stood, and there are no others but the new
-  pub kept : (x : ℕ) (w : Cell) → in_pages g.pages x ≡ some w → in_pages u.pages x ≡ some w
-  pub back : (x : ℕ) (w : Cell) → in_pages u.pages x ≡ some w → (in_pages g.pages x ≡ some w) ⊎ Memᴰ w ws
+  pub kept : (x : ℕ) (w : Cell) → in_pages g.pages x ≡ Some w → in_pages u.pages x ≡ Some w
+  pub back : (x : ℕ) (w : Cell) → in_pages u.pages x ≡ Some w → (in_pages g.pages x ≡ Some w) ⊎ Memᴰ w ws
   -- the new words stand from the address on
-  pub cells : (i : ℕ) → i < length ws → in_pages u.pages (u.address + i) ≡ get_elem? ws i
+  pub cells : (i : ℕ) → i < length ws → in_pages u.pages (u.address + i) ≡ slice_get ws i
   pub page_in_lem : PageIn l (u.address / 16)
   pub word_in : 1 ≤ u.address % 16
 
@@ -239,26 +239,26 @@ module _ (l : Limits) (next : ℕ) (page : Option ℕ) (ws : List Cell) (g : Reg
         word_in = omega (arith, term.least);
       }
     where
-      by : (x : ℕ) (w : Cell) → (in_pages (p ∷ qs) x ≡ some w) ⊎ Memᴰ w ws → (in_pages g.pages x ≡ some w) ⊎ Memᴰ w ws
+      by : (x : ℕ) (w : Cell) → (in_pages (p ∷ qs) x ≡ Some w) ⊎ Memᴰ w ws → (in_pages g.pages x ≡ Some w) ⊎ Memᴰ w ws
       by x w (inl e) = inl (sym (r.same x) ∙ e)
       by x w (inr k) = inr k
 
   -- THE LAW OF put: a page that joins must be a page of the machine that the region does not list
-  pub put_adds : ((n : ℕ) → page ≡ some n → PageIn l n × (lists n g ≡ true → ⊥)) → (u : Put) → put page ws g.pages ≡ some u → Added l next page ws g u
+  pub put_adds : ((n : ℕ) → page ≡ Some n → PageIn l n × (lists n g ≡ true → ⊥)) → (u : Put) → put page ws g.pages ≡ Some u → Added l next page ws g u
   unfolding put on_new Filled
   put_adds fresh u = by g.pages refl
     where
-      by : (ps : List Page) → g.pages ≡ ps → put page ws ps ≡ some u → Added l next page ws g u
+      by : (ps : List Page) → g.pages ≡ ps → put page ws ps ≡ Some u → Added l next page ws g u
       by [] e h = absurd (subst Filled e ok.filled)
       by (p ∷ qs) e h = at (leb (length p.words + length ws) 15) refl page refl h
         where
-          at : (t : Bool) → leb (length p.words + length ws) 15 ≡ t → (o : Option ℕ) → page ≡ o → (if t then some (put_on p qs ws) else on_new o ws (p ∷ qs)) ≡ some u →
+          at : (t : Bool) → leb (length p.words + length ws) 15 ≡ t → (o : Option ℕ) → page ≡ o → (if t then Some (put_on p qs ws) else on_new o ws (p ∷ qs)) ≡ Some u →
               Added l next page ws g u
           at true q o f h =
-              subst (Added l next page ws g) (some-injective (put_on p qs ws) u h) (room_adds p qs (top_room l next g ok page p qs e) (leb-true (length p.words + length ws) 15 q))
-          at false q none f h = absurd (none-ne-some u h)
-          at false q (some n) f h =
+              subst (Added l next page ws g) (Some-injective (put_on p qs ws) u h) (room_adds p qs (top_room l next g ok page p qs e) (leb-true (length p.words + length ws) 15 q))
+          at false q None f h = absurd (None-ne-Some u h)
+          at false q (Some n) f h =
               let k = fresh n f in
               let top : Page = record { number = n; words = [] } in
-              subst (Added l next page ws g) (ap (λ (ps : List Page). put_on top ps ws) e ∙ some-injective (put_on top (p ∷ qs) ws) u h)
+              subst (Added l next page ws g) (ap (λ (ps : List Page). put_on top ps ws) e ∙ Some-injective (put_on top (p ∷ qs) ws) u h)
               (room_adds top g.pages (new_room l next g ok page n f k.0 k.1) (omega (arith, term.most)))

@@ -1,9 +1,8 @@
 -- A status other than 0 changes no register, heap or table word: the machine stays as it was.
-use Rattle.std.specs.Prelude.{if◌then◌else◌}
+use Rattle.std.specs.Prelude.{if◌then◌else◌, Option, Some, None}
 use mathlib.Core.Path.{◌≡◌, refl}
 use mathlib.Core.Bool.{Bool, true, false, ◌&&◌}
 use mathlib.Core.List.{List, [], ◌∷◌}
-use mathlib.Core.Option.{Option, none, some}
 use mathlib.Core.Logic.{◌≢◌}
 use Prim.Native.Nat.{ℕ, ◌-◌}
 use lib.Dec.{eqb, leb}
@@ -37,19 +36,19 @@ within_kept m (accepted r e) h = absurd (h e)
 
 kill_kept : (c : Copy) (g : Option Region) → Kept c (kill c g)
 unfolding kill
-kill_kept c none = stays (plain 3)
-kill_kept c (some g) = accepted _ refl
+kill_kept c None = stays (plain 3)
+kill_kept c (Some g) = accepted _ refl
 
 placed_kept : (c : Copy) (d s : ℕ) (p : Option Put) → Kept c (placed c d s p)
 unfolding placed
-placed_kept c d s none = stays (plain 5)
-placed_kept c d s (some p) = accepted _ refl
+placed_kept c d s None = stays (plain 5)
+placed_kept c d s (Some p) = accepted _ refl
 
 build_kept : (page : Option ℕ) (c : Copy) (d : ℕ) (g : Option Region) (ws : Option (List Cell)) → Kept c (build page c d g ws)
 unfolding build
-build_kept page c d none ws = stays (plain 3)
-build_kept page c d (some g) none = stays (plain 4)
-build_kept page c d (some g) (some ws) = placed_kept c d g.stamp (put page ws g.pages)
+build_kept page c d None ws = stays (plain 3)
+build_kept page c d (Some g) None = stays (plain 4)
+build_kept page c d (Some g) (Some ws) = placed_kept c d g.stamp (put page ws g.pages)
 
 -- unless the answer is 0, no binding of this step remains
 unified_kept : (c : Copy) (k : ℕ) (r : Solved) → Kept c (unified c k r)
@@ -65,9 +64,9 @@ unified_kept c k r = by (eqb r.status 0) refl
 
 unify_kept : (c : Copy) (x y : Option Ref) (k : ℕ) → Kept c (unify_terms c x y k)
 unfolding unify_terms
-unify_kept c none y k = stays (plain 4)
-unify_kept c (some r) none k = stays (plain 4)
-unify_kept c (some r) (some s) k = unified_kept c k (solve k c (record { left = r; right = s } ∷ []))
+unify_kept c None y k = stays (plain 4)
+unify_kept c (Some r) None k = stays (plain 4)
+unify_kept c (Some r) (Some s) k = unified_kept c k (solve k c (record { left = r; right = s } ∷ []))
 
 seen_kept : (c : Copy) (d : ℕ) (f : Found) → Kept c (seen c d f)
 unfolding seen
@@ -95,8 +94,8 @@ make_kept : (m : Machine) (d : ℕ) (last full : Bool) (p : Option ℕ) → Unch
 unfolding new_region
 make_kept m d true full p h = refl
 make_kept m d false true p h = refl
-make_kept m d false false none h = refl
-make_kept m d false false (some p) h = absurd (h refl)
+make_kept m d false false None h = refl
+make_kept m d false false (Some p) h = absurd (h refl)
 
 push_kept : (m : Machine) (full : Bool) →
     Unchanged m (if full then refused m 8 else record { answer = plain 0; machine = with_copies m m.present (m.present ∷ m.saved) })
@@ -118,8 +117,8 @@ unfolding exec
 refusal_changes_nothing m Refused = λ h. refl
 refusal_changes_nothing m (MakeRegion d) = make_kept m d (eqb m.next last_stamp) (leb m.limits.slots (slots m)) (lowest (free m))
 refusal_changes_nothing m (KillRegion a) = within_kept m (kill_kept m.present (region_at m.present a))
-refusal_changes_nothing m (MakeVar d a) = building_kept m d a (some (Unbound ∷ []))
-refusal_changes_nothing m (Integer d a v) = building_kept m d a (some (Int v ∷ []))
+refusal_changes_nothing m (MakeVar d a) = building_kept m d a (Some (Unbound ∷ []))
+refusal_changes_nothing m (Integer d a v) = building_kept m d a (Some (Int v ∷ []))
 refusal_changes_nothing m (Structure d a b f n) = building_kept m d a (headed (Head f n) (operands n m.present b))
 refusal_changes_nothing m (Unify a b k) = within_kept m (unify_kept m.present (live_at m.present a) (live_at m.present b) k)
 refusal_changes_nothing m (Deref d a) = within_kept m (seen_kept m.present d (found_from m.present (term_at m.present a)))

@@ -1,7 +1,7 @@
 -- What registers and cells name: how it is carried from copy to copy, and a register read or written.
 use mathlib.Core.Path.{◌≡◌, refl, subst, ◌∙◌}
 use mathlib.Core.Logic.{◌⊎◌, inl, inr}
-use mathlib.Core.Option.{some}
+use Rattle.std.specs.Prelude.{Some}
 use Prim.Native.Nat.{ℕ}
 use lib.ListN.{length-set}
 use Rattle.laws.specs.Base.{Each}
@@ -20,7 +20,7 @@ use Rattle.machine.proofs.Cells.{cell_in}
 
 -- a variable of d, at a reference that names what it has to in c, was one in c
 abbrev pub Were : Copy → Copy → Type 0
-Were c d = (r : Ref) (w : Cell) → Names c r → cell_at d r ≡ some w → IsVariable w → (v : Cell) × (cell_at c r ≡ some v) × IsVariable v
+Were c d = (r : Ref) (w : Cell) → Names c r → cell_at d r ≡ Some w → IsVariable w → (v : Cell) × (cell_at c r ≡ Some v) × IsVariable v
 
 module _ (Ok : Ref → Type 0) (c d : Copy) (still : (r : Ref) → Ok r → Names c r → Names d r) where
   register_if : (x : Register) → ((r : Ref) → x ≡ Reg.Term r → Ok r) → RegisterNames c x → RegisterNames d x
@@ -60,7 +60,7 @@ module _ (l : Limits) (next : ℕ) (c d : Copy) (still : (r : Ref) → RefIn l n
       (λ x m. register_if (RefIn l next) c d still x (λ r e. subst (RegisterIn l next) e (each_at (RegisterIn l next) c.registers k.registers_in x m)))
       k.registers_name
 
-  pub cells_kept : Were c d → (r : Ref) (w : Cell) → cell_at c r ≡ some w → CellNames d r w
+  pub cells_kept : Were c d → (r : Ref) (w : Cell) → cell_at c r ≡ Some w → CellNames d r w
   cells_kept was r w e = cell_if (RefIn l next) c d still was r w (refers_in l next w (cell_in l next c k r w e)) (k.cells_name r w e)
 
 -- ---- one register

@@ -3,7 +3,8 @@ use mathlib.Core.Path.{◌≡◌, refl, sym, ap, ◌∙◌, subst}
 use mathlib.Core.Logic.{◌≢◌, ◌⊎◌, inl, inr}
 use mathlib.Core.List.Memᴰ
 use mathlib.Core.List.{List, [], ◌∷◌, map, Memᴰ, Nodup, Nodup-cons}
-use mathlib.Core.Option.{Option, none, some, none-ne-some, some-injective}
+use Rattle.std.specs.Prelude.{Option, Some, None}
+use Rattle.laws.proofs.Options.{None-ne-Some, Some-injective}
 use Prim.Native.Nat.{ℕ, suc, ◌+◌, ◌-◌, ◌*◌, ◌/◌, ◌%◌, ◌^◌, ◌≤◌, ◌<◌}
 use native.Mathlib.Omega.{arith}
 use lib.ListN.{length, get_or}
@@ -57,34 +58,34 @@ Within nx ps qs = (n : ℕ) (j : Option ℕ) (p : Page) → Lies n nx ps j p →
 
 -- nx is no page of the list
 abbrev Absent : Option ℕ → List Page → Type 0
-Absent nx ps = (p : Page) → Memᴰ p ps → nx ≢ some p.number
+Absent nx ps = (p : Page) → Memᴰ p ps → nx ≢ Some p.number
 
 -- which page joined after
-after_is : (n : ℕ) (nx : Option ℕ) (ps : List Page) (j : Option ℕ) (p : Page) → Lies n nx ps j p → (j ≡ nx) ⊎ ((r : Page) × Memᴰ r ps × (j ≡ some r.number))
+after_is : (n : ℕ) (nx : Option ℕ) (ps : List Page) (j : Option ℕ) (p : Page) → Lies n nx ps j p → (j ≡ nx) ⊎ ((r : Page) × Memᴰ r ps × (j ≡ Some r.number))
 unfolding Lies
 after_is n nx [] j p h = absurd h
 after_is n nx (x ∷ xs) j p (inl h) = inl (sym h.2)
-after_is n nx (x ∷ xs) j p (inr h) = by (after_is n (some x.number) xs j p h)
+after_is n nx (x ∷ xs) j p (inr h) = by (after_is n (Some x.number) xs j p h)
   where
-    by : (j ≡ some x.number) ⊎ ((r : Page) × Memᴰ r xs × (j ≡ some r.number)) → (j ≡ nx) ⊎ ((r : Page) × Memᴰ r (x ∷ xs) × (j ≡ some r.number))
+    by : (j ≡ Some x.number) ⊎ ((r : Page) × Memᴰ r xs × (j ≡ Some r.number)) → (j ≡ nx) ⊎ ((r : Page) × Memᴰ r (x ∷ xs) × (j ≡ Some r.number))
     by (inl e) = inr (x, Memᴰ.head refl, e)
     by (inr r) = inr (r.0, Memᴰ.tail r.1, r.2)
 
 head_same : (nx : Option ℕ) (p q : Page) (qs : List Page) → Absent nx (q ∷ qs) → Lies p.number nx (q ∷ qs) nx p → q ≡ p
 unfolding Lies
 head_same nx p q qs b (inl h) = h.1
-head_same nx p q qs b (inr h) = by (after_is p.number (some q.number) qs nx p h)
+head_same nx p q qs b (inr h) = by (after_is p.number (Some q.number) qs nx p h)
   where
-    by : (nx ≡ some q.number) ⊎ ((r : Page) × Memᴰ r qs × (nx ≡ some r.number)) → q ≡ p
+    by : (nx ≡ Some q.number) ⊎ ((r : Page) × Memᴰ r qs × (nx ≡ Some r.number)) → q ≡ p
     by (inl e) = absurd (b q (Memᴰ.head refl) e)
     by (inr r) = absurd (b r.0 (Memᴰ.tail r.1) r.2)
 
-tail_within : (nx : Option ℕ) (p : Page) (ps qs : List Page) → Nodup (Numbers (p ∷ ps)) → Within nx (p ∷ ps) (p ∷ qs) → Within (some p.number) ps qs
+tail_within : (nx : Option ℕ) (p : Page) (ps qs : List Page) → Nodup (Numbers (p ∷ ps)) → Within nx (p ∷ ps) (p ∷ qs) → Within (Some p.number) ps qs
 unfolding Lies
 tail_within nx p ps qs d f n j r l = by (f n j r (inr l))
   where
-    by : ((p.number ≡ n) × (p ≡ r) × (nx ≡ j)) ⊎ Lies n (some p.number) qs j r → Lies n (some p.number) qs j r
-    by (inl h) = absurd (once p ps d n (some p.number) j r l h.0)
+    by : ((p.number ≡ n) × (p ≡ r) × (nx ≡ j)) ⊎ Lies n (Some p.number) qs j r → Lies n (Some p.number) qs j r
+    by (inl h) = absurd (once p ps d n (Some p.number) j r l h.0)
     by (inr h) = h
 
 pages_same : (nx : Option ℕ) (ps qs : List Page) → Nodup (Numbers ps) → Nodup (Numbers qs) → Absent nx ps → Absent nx qs → Within nx ps qs → Within nx qs ps → ps ≡ qs
@@ -95,9 +96,9 @@ pages_same nx (p ∷ ps) [] d e a b f g = absurd (f p.number nx p (inl (refl, re
 pages_same nx (p ∷ ps) (q ∷ qs) d e a b f g =
     let z : q ≡ p = head_same nx p q qs b (f p.number nx p (inl (refl, refl, refl))) in
     let e' : Nodup (Numbers (p ∷ qs)) = subst (λ (x : Page). Nodup (Numbers (x ∷ qs))) z e in
-    let r : ps ≡ qs = pages_same (some p.number) ps qs (Nodup-cons.0 d).1 (Nodup-cons.0 e').1
-    (λ x m h. first_apart p ps d x m (some-injective p.number x.number h))
-    (λ x m h. first_apart p qs e' x m (some-injective p.number x.number h))
+    let r : ps ≡ qs = pages_same (Some p.number) ps qs (Nodup-cons.0 d).1 (Nodup-cons.0 e').1
+    (λ x m h. first_apart p ps d x m (Some-injective p.number x.number h))
+    (λ x m h. first_apart p qs e' x m (Some-injective p.number x.number h))
     (tail_within nx p ps qs d (subst (λ (x : Page). Within nx (p ∷ ps) (x ∷ qs)) z f))
     (tail_within nx p qs ps e' (subst (λ (x : Page). Within nx (x ∷ qs) (p ∷ ps)) z g)) in
     λ i. sym z i ∷ r i
@@ -170,15 +171,15 @@ module _ (m w : Machine) (s : Sound m) (t : Sound w) (limits : m.limits ≡ w.li
       (i, sym o.0, sym o.1, λ v. record { number = (number i ∙ sym (number h)) v; words = sym o.2 v })
     where
       number : {gs : List Region} {n : ℕ} (h : Home gs n) → h.page.number ≡ n
-      number {gs} {n} h = lies_number n none h.region.pages h.next h.page h.lies
+      number {gs} {n} h = lies_number n None h.region.pages h.next h.page h.lies
 
   -- a region of c and a region of d with the same stamp: the one lists what the other lists
-  same_lies : (g h : Region) → Memᴰ g c.regions → Memᴰ h d.regions → h.stamp ≡ g.stamp → Within none g.pages h.pages
+  same_lies : (g h : Region) → Memᴰ g c.regions → Memᴰ h d.regions → h.stamp ≡ g.stamp → Within None g.pages h.pages
   same_lies g h i j e n k p l =
       let a = same_home (record { region = g; among = i; next = k; page = p; lies = l }) in
       let r : a.0.region ≡ h = one_region d.regions (copy_ok w t d y).in_order a.0.region h a.0.among j (a.1 ∙ sym e) in
-      subst (λ (v : Region). Lies n none v.pages k p) r (subst (λ (u : Option ℕ). Lies n none a.0.region.pages u p) a.2
-      (subst (Lies n none a.0.region.pages a.0.next) a.3 a.0.lies))
+      subst (λ (v : Region). Lies n None v.pages k p) r (subst (λ (u : Option ℕ). Lies n None a.0.region.pages u p) a.2
+      (subst (Lies n None a.0.region.pages a.0.next) a.3 a.0.lies))
 
   -- a region of c has its stamp in d
   same_stamp : (g : Region) → Memᴰ g c.regions → (h : Region) × Memᴰ h d.regions × (h.stamp ≡ g.stamp)
@@ -188,7 +189,7 @@ module _ (m w : Machine) (s : Sound m) (t : Sound w) (limits : m.limits ≡ w.li
       by : (ps : List Page) → g.pages ≡ ps → (h : Region) × Memᴰ h d.regions × (h.stamp ≡ g.stamp)
       by [] q = absurd (subst Filled q (region_ok_lem m s c x g i).filled)
       by (p ∷ ps) q =
-          let a = same_home (record { region = g; among = i; next = none; page = p; lies = subst (λ (l : List Page). Lies p.number none l none p) (sym q) (inl (refl, refl, refl)) }) in
+          let a = same_home (record { region = g; among = i; next = None; page = p; lies = subst (λ (l : List Page). Lies p.number None l None p) (sym q) (inl (refl, refl, refl)) }) in
           (a.0.region, a.0.among, a.1)
 
 -- so it is a region of d
@@ -196,8 +197,8 @@ same_region : (m w : Machine) (s : Sound m) (t : Sound w) → m.limits ≡ w.lim
     ((a : ℕ) → a < 2 ^ (width m) → word_of m c a ≡ word_of w d a) → ((a : ℕ) → a < 2 ^ (width w) → word_of w d a ≡ word_of m c a) → (g : Region) → Memᴰ g c.regions → Memᴰ g d.regions
 same_region m w s t limits c d x y same back g i =
     let h = same_stamp m w s t limits c d x y same g i in
-    let r : g.pages ≡ h.0.pages = pages_same none g.pages h.0.pages (region_ok_lem m s c x g i).no_page_twice (region_ok_lem w t d y h.0 h.1).no_page_twice
-    (λ z a. none-ne-some z.number) (λ z a. none-ne-some z.number)
+    let r : g.pages ≡ h.0.pages = pages_same None g.pages h.0.pages (region_ok_lem m s c x g i).no_page_twice (region_ok_lem w t d y h.0 h.1).no_page_twice
+    (λ z a. None-ne-Some z.number) (λ z a. None-ne-Some z.number)
     (same_lies m w s t limits c d x y same g h.0 i h.1 h.2)
     (same_lies w m t s (sym limits) d c y x back h.0 g h.1 i (sym h.2)) in
     let z : h.0 ≡ g = (λ j. record { stamp = h.2 j; pages = sym r j }) in

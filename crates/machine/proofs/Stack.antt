@@ -1,10 +1,10 @@
 -- The copies of a sound machine are a sound stack of words, so the layers' laws are laws of the machine.
-use Rattle.std.specs.Prelude.{if◌then◌else◌}
+use Rattle.std.specs.Prelude.{if◌then◌else◌, Option, Some, None}
 use mathlib.Core.Path.{◌≡◌, refl, sym, ap, ◌∙◌, subst}
 use mathlib.Core.Bool.{Bool, true, false, true≢false}
 use mathlib.Core.Logic.{◌≢◌, ◌⊎◌, inl, inr}
 use mathlib.Core.List.{Memᴰ}
-use mathlib.Core.Option.{Option, none, some, none-ne-some, some-injective}
+use Rattle.laws.proofs.Options.{None-ne-Some, Some-injective}
 use Prim.Native.Nat.{ℕ, suc, ◌-◌, ◌*◌, ◌/◌, ◌%◌, ◌^◌, ◌≤◌, ◌<◌}
 use native.Mathlib.Omega.{arith}
 use lib.Dec.{leb, eqb}
@@ -56,23 +56,23 @@ module _ (m : Machine) (s : Sound m) where
 
   -- ---- links: the copy b holds page n with page q after it
 
-  module _ (b : Copy) (y : Memᴰ b (copies m)) (n q : ℕ) (h : Home b.regions n) (joined : h.next ≡ some q) where
+  module _ (b : Copy) (y : Memᴰ b (copies m)) (n q : ℕ) (h : Home b.regions n) (joined : h.next ≡ Some q) where
     -- an older copy that does not hold q has no page after n
     none_after : (c : Copy) → Memᴰ c (copies m) → CopyGrown b c → (Home c.regions q → ⊥) → Spot (width m) c.regions n → turned (link c n) ≡ false
     none_after c x grown z (free w e) = ap turned (free_link (width m) c.regions n e) ∙ zero_not_turned
     none_after c x grown z (held i e) = by i.next refl
       where
         by : (j : Option ℕ) → i.next ≡ j → turned (link c n) ≡ false
-        by none d = link_last m s c x i d
-        by (some r) d =
+        by None d = link_last m s c x i d
+        by (Some r) d =
             let w = carried m s c b x y grown i h in
-            let o : w.home.next ≡ some q = (one_home m s b y w.home h).1 ∙ joined in
+            let o : w.home.next ≡ Some q = (one_home m s b y w.home h).1 ∙ joined in
             let a = (after i r d).0 in
             absurd (no a w.link o)
           where
-            no : Home c.regions r → {v : Option ℕ} → (v ≡ i.next) ⊎ (i.next ≡ none) → v ≡ some q → ⊥
-            no a (inr k) o = none-ne-some r (sym k ∙ d)
-            no a (inl k) o = z (subst (Home c.regions) (some-injective r q (sym d ∙ sym k ∙ o)) a)
+            no : Home c.regions r → {v : Option ℕ} → (v ≡ i.next) ⊎ (i.next ≡ None) → v ≡ Some q → ⊥
+            no a (inr k) o = None-ne-Some r (sym k ∙ d)
+            no a (inl k) o = z (subst (Home c.regions) (Some-injective r q (sym d ∙ sym k ∙ o)) a)
 
     -- an older copy, or b itself: its link of n has turned exactly if it holds q
     older : (c : Copy) → Memᴰ c (copies m) → CopyGrown b c → turned (link c n) ≡ filled (link c q)
@@ -130,7 +130,7 @@ module _ (m : Machine) (s : Sound m) where
           (grown_to a c h i (omega arith)) (λ u. return_at (copies m) s.no_return a c b u h (omega tests) (omega tests) l) n f g
 
   -- l is the newest copy with the page n, and its link names a page q there: the copies in which it does are those that hold q
-  chained_at : (n l q : ℕ) (x : 0 < l) (y : l ≤ count) (h : Home (copy l).regions n) → h.next ≡ some q → ((c : ℕ) → l < c → c ≤ count → link (copy c) n ≡ 0) →
+  chained_at : (n l q : ℕ) (x : 0 < l) (y : l ≤ count) (h : Home (copy l).regions n) → h.next ≡ Some q → ((c : ℕ) → l < c → c ≤ count → link (copy c) n ≡ 0) →
       (c : ℕ) → 0 < c → c ≤ count → turned (link (copy c) n) ≡ filled (link (copy c) q)
   chained_at n l q x y h e late c i j = by (leb c l) refl
     where
@@ -161,8 +161,8 @@ module _ (m : Machine) (s : Sound m) where
       h = holds m s (copy l) n (turned_filled (link (copy l) n) t)
 
       by : (j : Option ℕ) → h.next ≡ j → Chains (n * 16) (link (copy l) n)
-      by none e = absurd (true≢false (sym t ∙ link_last m s (copy l) (here l x y) h e))
-      by (some q) e =
+      by None e = absurd (true≢false (sym t ∙ link_last m s (copy l) (here l x y) h e))
+      by (Some q) e =
           let f : q < 2 ^ (width m - 4) = subst (NextFits (width m)) e (next_fit m s (copy l) (here l x y) h) in
           let w : next_address (width m) (link (copy l) n) ≡ q * 16
           = ap (next_address (width m)) (link_home m s (copy l) (here l x y) h ∙ ap (link_word (width m) h.region.stamp) e)

@@ -3,7 +3,7 @@ use mathlib.Core.Path.{◌≡◌, refl, sym, ap, ◌∙◌}
 use mathlib.Core.Bool.{true, false}
 use mathlib.Core.Logic.{◌≢◌, ◌⊎◌, inl, inr}
 use mathlib.Core.List.{List, [], ◌∷◌, ◌++◌, map}
-use mathlib.Core.Option.{Option, none, some}
+use Rattle.std.specs.Prelude.{Option, Some, None}
 use Prim.Native.Nat.{ℕ, zero, suc, ◌+◌, ◌-◌, ◌*◌, ◌%◌, ◌^◌, ◌≤◌, ◌<◌}
 use native.Mathlib.Omega.{arith}
 use lib.Dec.{eqb}
@@ -45,28 +45,28 @@ module _ (k : ℕ) (least : 4 ≤ k) (most : k ≤ 16) where
   -- ---- links
 
   module _ (s : ℕ) (hs : s < 2 ^ 32) where
-    pub link_plain : turned (link_word k s none) ≡ false
+    pub link_plain : turned (link_word k s None) ≡ false
     unfolding turned NextFits has_next
-    link_plain = rw (link_tag k least most s hs none tt, (link_next k least most s none tt).0)
+    link_plain = rw (link_tag k least most s hs None tt, (link_next k least most s None tt).0)
 
-    pub link_turned : (q : ℕ) → q < 2 ^ (k - 4) → turned (link_word k s (some q)) ≡ true
+    pub link_turned : (q : ℕ) → q < 2 ^ (k - 4) → turned (link_word k s (Some q)) ≡ true
     unfolding turned NextFits has_next
-    link_turned q hq = rw (link_tag k least most s hs (some q) hq, (link_next k least most s (some q) hq).0)
+    link_turned q hq = rw (link_tag k least most s hs (Some q) hq, (link_next k least most s (Some q) hq).0)
 
-    link_old : (j : Option ℕ) → NextFits k j → link_word k s none ≡ old (link_word k s j)
+    link_old : (j : Option ℕ) → NextFits k j → link_word k s None ≡ old (link_word k s j)
     unfolding link_word
     link_old j hj = old_link (link_word k s j) s (link_below k least most s hs j hj) (link_tag k least most s hs j hj) (link_stamp k least most s hs j hj)
 
     -- a link stays, or gains a next page
-    link_becomes : (i j : Option ℕ) → NextFits k j → (j ≡ i) ⊎ (i ≡ none) → Becomes (link_word k s i) (link_word k s j)
+    link_becomes : (i j : Option ℕ) → NextFits k j → (j ≡ i) ⊎ (i ≡ None) → Becomes (link_word k s i) (link_word k s j)
     unfolding NextFits
     link_becomes i j h (inl e) = inl (ap (link_word k s) e)
-    link_becomes i none h (inr e) = inl (ap (link_word k s) (sym e))
-    link_becomes i (some q) h (inr e) = inr (link_turned q h, ap (link_word k s) e ∙ link_old (some q) h)
+    link_becomes i None h (inr e) = inl (ap (link_word k s) (sym e))
+    link_becomes i (Some q) h (inr e) = inr (link_turned q h, ap (link_word k s) e ∙ link_old (Some q) h)
 
-  pub link_names : (s q : ℕ) → q < 2 ^ (k - 4) → next_address k (link_word k s (some q)) ≡ q * 16
+  pub link_names : (s q : ℕ) → q < 2 ^ (k - 4) → next_address k (link_word k s (Some q)) ≡ q * 16
   unfolding NextFits next_page
-  link_names s q h = ap (λ (x : ℕ). x * 16) (link_next k least most s (some q) h).1
+  link_names s q h = ap (λ (x : ℕ). x * 16) (link_next k least most s (Some q) h).1
 
   -- ---- cells
 
@@ -119,7 +119,7 @@ module _ (k : ℕ) (least : 4 ≤ k) (most : k ≤ 16) where
   cells_become (v ∷ vs) (w ∷ ws) h g zero f = later_becomes v w h.0 g.0
   cells_become (v ∷ vs) (w ∷ ws) h g (suc i) f = cells_become vs ws h.1 g.1 i f
 
-  pub page_becomes : (s : ℕ) (i j : Option ℕ) (p q : Page) → s < 2 ^ 32 → NextFits k j → (j ≡ i) ⊎ (i ≡ none) → Each (CellFits k) q.words → Grown p.words q.words →
+  pub page_becomes : (s : ℕ) (i j : Option ℕ) (p q : Page) → s < 2 ^ 32 → NextFits k j → (j ≡ i) ⊎ (i ≡ None) → Each (CellFits k) q.words → Grown p.words q.words →
       (n : ℕ) → get_or (page_words k s i p) n 0 ≢ 0 → Becomes (get_or (page_words k s i p) n 0) (get_or (page_words k s j q) n 0)
   unfolding page_words
   page_becomes s i j p q hs hj e h g zero f = link_becomes s hs i j hj e

@@ -1,10 +1,9 @@
 -- Step 6 keeps a machine sound: each binding goes on from the present copy, and a status other than 0 leaves it as it was.
-use Rattle.std.specs.Prelude.{if◌then◌else◌}
+use Rattle.std.specs.Prelude.{if◌then◌else◌, Option, Some, None}
 use mathlib.Core.Path.{◌≡◌, refl, sym}
 use mathlib.Core.Bool.{Bool, true, false, ◌&&◌}
 use mathlib.Core.Logic.{◌≢◌}
 use mathlib.Core.List.{List, [], ◌∷◌, ◌++◌}
-use mathlib.Core.Option.{Option, none, some}
 use Prim.Native.Nat.{ℕ, zero, suc}
 use native.Mathlib.Omega.{arith}
 use lib.Dec.{eqb, ltb}
@@ -46,12 +45,12 @@ module _ (m : Machine) (t : ℕ) where
 
   module _ (c : Copy) (o : Onward m t c) where
     -- a variable is bound to a cell of tag 1, 3 or 4
-    bound : (r s : Ref) (w : Cell) → cell_at c r ≡ some Unbound → cell_at c s ≡ some w → Ends w → (IsVariable w → younger r s ≡ true) → Goes (bind c r s)
+    bound : (r s : Ref) (w : Cell) → cell_at c r ≡ Some Unbound → cell_at c s ≡ Some w → Ends w → (IsVariable w → younger r s ≡ true) → Goes (bind c r s)
     unfolding Goes
     bound r s w e f k y = bind_onward m t c r s o (record { variable = e; cell = w; found = f; ends = k; order = y })
 
     -- two cells that are not one meet: a binding, if any, is of the younger variable
-    meets : (r s : Ref) (v w : Cell) → cell_at c r ≡ some v → cell_at c s ≡ some w → r.address ≢ s.address → Goes (meet c r v s w)
+    meets : (r s : Ref) (v w : Cell) → cell_at c r ≡ Some v → cell_at c s ≡ Some w → r.address ≢ s.address → Goes (meet c r v s w)
     unfolding Goes meet Ends IsVariable
     meets r s Unbound Unbound e f n = by (younger r s) refl
       where
@@ -85,7 +84,7 @@ module _ (m : Machine) (t : ℕ) where
 
     -- what was found stands in the copy
     abbrev Stands : Found → Type 0
-    Stands f = (r : Ref) (w : Cell) → f ≡ At r w → cell_at c r ≡ some w
+    Stands f = (r : Ref) (w : Cell) → f ≡ At r w → cell_at c r ≡ Some w
 
     found : (x y : Found) → Stands x → Stands y → Goes (take_found c x y)
     unfolding Goes take_found
@@ -118,9 +117,9 @@ module _ (m : Machine) (t : ℕ) where
 -- the bindings remain only where the answer is 0
 unify_onward : (m : Machine) (x y : Option Ref) (budget : ℕ) → Onward m 0 m.present → Onward m 0 (unify_terms m.present x y budget).copy
 unfolding unify_terms unified
-unify_onward m none y budget o = o
-unify_onward m (some r) none budget o = o
-unify_onward m (some r) (some s) budget o = by (eqb (solve budget m.present agenda).status 0)
+unify_onward m None y budget o = o
+unify_onward m (Some r) None budget o = o
+unify_onward m (Some r) (Some s) budget o = by (eqb (solve budget m.present agenda).status 0)
   where
     agenda : List Pair
     agenda = record { left = r; right = s } ∷ []

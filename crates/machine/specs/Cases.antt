@@ -1,8 +1,7 @@
 -- Document 01, "Twelve to prove, in a single table": a case a row, and one computed check. Rows beyond the twelve: step 6's cell of the worked
 -- run, the two cases by program, a row for each of the faults we have met, which that fault would break, and what wrong definitions showed that
 -- the twelve leave open.
-use Rattle.std.specs.Prelude.{Bool, true, false, ◌&&◌, List, [], ◌∷◌, ◌++◌, map, ℕ, zero, suc, eqb, pos, negsuc, get_or, replicate}
-use Rattle.std.proofs.Math.Option.{none, some}
+use Rattle.std.specs.Prelude.{Bool, true, false, ◌&&◌, List, [], ◌∷◌, ◌++◌, map, ℕ, zero, suc, eqb, pos, negsuc, get_or, replicate, Some, None}
 use Rattle.words.specs.declared.Ref.{Ref}
 use Rattle.words.specs.declared.Cell.TheVariants.{Unbound, Bound, Int, Head, Argument}
 use Rattle.words.specs.declared.Step.{Step}
@@ -138,7 +137,7 @@ cases =
       stamp = 1;
       steps = MakeRegion 0 ∷ PushChoice ∷ KillRegion 0 ∷ MakeRegion 1 ∷ MakeRegion 2 ∷ Cut ∷ MakeRegion 2 ∷ [];
       answered = gives 1 ∷ ok ∷ ok ∷ gives 2 ∷ plain 5 ∷ ok ∷ gives 3 ∷ [];
-      heap = 0 ↤ link_word 12 3 none ∷ 16 ↤ link_word 12 2 none ∷ [];
+      heap = 0 ↤ link_word 12 3 None ∷ 16 ↤ link_word 12 2 None ∷ [];
       free = 0;
       choices = 0;
       next = 4;
@@ -149,7 +148,7 @@ cases =
       stamp = 1;
       steps = MakeRegion 0 ∷ MakeRegion 16 ∷ MakeVar 1 0 ∷ spread 13 2 1 ++ (Structure 15 16 1 9 14 ∷ Structure 15 0 1 9 15 ∷ MakeVar 17 16 ∷ []);
       answered = gives 1 ∷ gives 2 ∷ ok ∷ oks 13 1 ++ (ok ∷ plain 2 ∷ plain 5 ∷ []);
-      heap = 0 ↤ link_word 12 1 none ∷ 2 ↤ 0 ∷ 16 ↤ link_word 12 2 none ∷ 17 ↤ cell_word 12 (Head 9 14) ∷ 31 ↤ cell_word 12 (Argument (ref 1 1)) ∷ [];
+      heap = 0 ↤ link_word 12 1 None ∷ 2 ↤ 0 ∷ 16 ↤ link_word 12 2 None ∷ 17 ↤ cell_word 12 (Head 9 14) ∷ 31 ↤ cell_word 12 (Argument (ref 1 1)) ∷ [];
       free = 0;
       choices = 0;
       next = 3;
@@ -328,7 +327,7 @@ cases =
       stamp = 1;
       steps = MakeRegion 0 ∷ Integer 1 0 (pos 5) ∷ PushChoice ∷ KillRegion 0 ∷ MakeRegion 2 ∷ Integer 3 2 (pos 6) ∷ Backtrack ∷ Deref 4 1 ∷ Deref 4 3 ∷ [];
       answered = gives 1 ∷ ok ∷ ok ∷ ok ∷ gives 2 ∷ ok ∷ ok ∷ sees 3 5 ∷ plain 4 ∷ [];
-      heap = 0 ↤ link_word 12 1 none ∷ 1 ↤ cell_word 12 (Int (pos 5)) ∷ 16 ↤ 0 ∷ 17 ↤ 0 ∷ [];
+      heap = 0 ↤ link_word 12 1 None ∷ 1 ↤ cell_word 12 (Int (pos 5)) ∷ 16 ↤ 0 ∷ 17 ↤ 0 ∷ [];
       free = 1;
       choices = 0;
       next = 3;
@@ -350,7 +349,7 @@ cases =
       stamp = 1;
       steps = PushChoice ∷ MakeRegion 0 ∷ Backtrack ∷ MakeRegion 0 ∷ [];
       answered = ok ∷ gives 1 ∷ ok ∷ gives 2 ∷ [];
-      heap = 0 ↤ link_word 12 2 none ∷ [];
+      heap = 0 ↤ link_word 12 2 None ∷ [];
       free = 0;
       choices = 0;
       next = 3;
@@ -511,13 +510,13 @@ cases =
       steps = MakeRegion 0 ∷ MakeVar 1 0 ∷ MakeVar 1 0 ∷ spread 12 2 1 ++ (Structure 15 0 1 9 13 ∷ MakeVar 1 0 ∷ MakeVar 1 0 ∷ []);
       answered = gives 1 ∷ ok ∷ ok ∷ oks 12 1 ++ (ok ∷ ok ∷ ok ∷ []);
       heap =
-          0 ↤ link_word 12 1 (some 1)
+          0 ↤ link_word 12 1 (Some 1)
           ∷ 2 ↤ cell_word 12 Unbound
           ∷ 3 ↤ 0
-          ∷ 16 ↤ link_word 12 1 (some 2)
+          ∷ 16 ↤ link_word 12 1 (Some 2)
           ∷ 17 ↤ cell_word 12 (Head 9 13)
           ∷ 31 ↤ cell_word 12 Unbound
-          ∷ 32 ↤ link_word 12 1 none
+          ∷ 32 ↤ link_word 12 1 None
           ∷ 33 ↤ cell_word 12 Unbound
           ∷ [];
       free = 1;
@@ -530,7 +529,7 @@ cases =
       stamp = 1;
       steps = MakeRegion 0 ∷ MakeVar 1 0 ∷ MakeVar 1 0 ∷ spread 12 2 1 ++ (PushChoice ∷ Structure 15 0 1 9 13 ∷ Backtrack ∷ MakeVar 1 0 ∷ []);
       answered = gives 1 ∷ ok ∷ ok ∷ oks 12 1 ++ (ok ∷ ok ∷ ok ∷ ok ∷ []);
-      heap = 0 ↤ link_word 12 1 none ∷ 3 ↤ cell_word 12 Unbound ∷ 4 ↤ 0 ∷ 16 ↤ 0 ∷ 17 ↤ 0 ∷ [];
+      heap = 0 ↤ link_word 12 1 None ∷ 3 ↤ cell_word 12 Unbound ∷ 4 ↤ 0 ∷ 16 ↤ 0 ∷ 17 ↤ 0 ∷ [];
       free = 1;
       choices = 0;
       next = 2;

@@ -1,7 +1,5 @@
 -- Document 01, "The copy machine": regions, copies, the machine, held and free pages, and how a region grows.
-use Rattle.std.specs.Prelude.{Bool, not, List, [], ◌∷◌, ◌++◌, map, ℕ, zero, suc, ◌+◌, ◌-◌, ◌*◌, ◌/◌, ◌%◌, leb, eqb, length, set, replicate, if◌then◌else◌}
-use Rattle.std.proofs.Math.Option.{Option, none, some}
-use Rattle.std.proofs.Math.ListN.{get_elem?}
+use Rattle.std.specs.Prelude.{Bool, not, List, [], ◌∷◌, ◌++◌, map, ℕ, zero, suc, ◌+◌, ◌-◌, ◌*◌, ◌/◌, ◌%◌, leb, eqb, length, set, replicate, if◌then◌else◌, Option, Some, None, slice_get}
 use Rattle.laws.specs.Base.{keep, some_of, from}
 use Rattle.words.specs.declared.Ref.{Ref}
 use Rattle.words.specs.declared.Cell.{Cell}
@@ -73,8 +71,8 @@ unfoldable pub free : Machine → List ℕ
 free m = keep (λ p. not (held m p)) (from m.limits.pages m.limits.first)
 
 abbrev pub lowest : List ℕ → Option ℕ
-lowest [] = none
-lowest (p ∷ ps) = some p
+lowest [] = None
+lowest (p ∷ ps) = Some p
 
 -- the region of that stamp
 abbrev pub stamped : ℕ → Region → Bool
@@ -96,16 +94,16 @@ slots m = length (shown (copies m))
 
 -- word i of a page: words 1 to 15 carry terms, word 0 is the link and no cell
 unfoldable pub word : List Cell → ℕ → Option Cell
-word ws zero = none
-word ws (suc i) = get_elem? ws i
+word ws zero = None
+word ws (suc i) = slice_get ws i
 
 -- the cell at an address, page x 16 + word, in a list of pages
 unfoldable pub in_pages : List Page → ℕ → Option Cell
-in_pages [] a = none
+in_pages [] a = None
 in_pages (p ∷ ps) a = if eqb p.number (a / 16) then word p.words (a % 16) else in_pages ps a
 
 unfoldable pub in_regions : List Region → Ref → Option Cell
-in_regions [] r = none
+in_regions [] r = None
 in_regions (g ∷ gs) r = if eqb g.stamp r.stamp then in_pages g.pages r.address else in_regions gs r
 
 -- the cell that a reference names in a copy: none if the reference is dead
@@ -132,14 +130,14 @@ pub record Put : Type 0 where
 
 -- a term starts the page that joins the list, if one is free
 unfoldable pub on_new : Option ℕ → List Cell → List Page → Option Put
-on_new none ws ps = none
-on_new (some n) ws ps = some (record { pages = record { number = n; words = ws } ∷ ps; address = n * 16 + 1 })
+on_new None ws ps = None
+on_new (Some n) ws ps = Some (record { pages = record { number = n; words = ws } ∷ ps; address = n * 16 + 1 })
 
 -- a term goes after the last filled word of the newest page if it fits in the 15 words there; otherwise the lowest free page joins the list
 unfoldable pub put : Option ℕ → List Cell → List Page → Option Put
 put n ws [] = on_new n ws []
 put n ws (p ∷ ps) =
-    if leb (length p.words + length ws) 15 then some (record {
+    if leb (length p.words + length ws) 15 then Some (record {
       pages = record { number = p.number; words = p.words ++ ws } ∷ ps;
       address = p.number * 16 + suc (length p.words);
     }) else on_new n ws (p ∷ ps)

@@ -1,6 +1,5 @@
 -- Document 01, "Steps" and "Answer words": what each step answers and does, and a run over a list of steps.
-use Rattle.std.specs.Prelude.{◌&&◌, not, List, [], ◌∷◌, ◌++◌, map, ℕ, zero, suc, ◌+◌, ◌-◌, ◌*◌, ◌^◌, leb, eqb, length, get_or, set, if◌then◌else◌}
-use Rattle.std.proofs.Math.Option.{Option, none, some}
+use Rattle.std.specs.Prelude.{◌&&◌, not, List, [], ◌∷◌, ◌++◌, map, ℕ, zero, suc, ◌+◌, ◌-◌, ◌*◌, ◌^◌, leb, eqb, length, get_or, set, if◌then◌else◌, Option, Some, None}
 use Rattle.laws.specs.Base.{keep, first}
 use Rattle.words.specs.declared.Ref.{Ref}
 use Rattle.words.specs.declared.Cell.{Cell}
@@ -43,21 +42,21 @@ set_reg c i r = record { registers = set c.registers i r; regions = c.regions }
 
 -- the region in a register, if it is in the copy
 unfoldable pub as_region : Copy → Register → Option Region
-as_region c Reg.Empty = none
+as_region c Reg.Empty = None
 as_region c (Reg.Region s) = first (stamped s) c.regions
-as_region c (Reg.Term r) = none
+as_region c (Reg.Term r) = None
 
 -- the term in a register, if there is one
 unfoldable pub as_term : Register → Option Ref
-as_term Reg.Empty = none
-as_term (Reg.Region s) = none
-as_term (Reg.Term r) = some r
+as_term Reg.Empty = None
+as_term (Reg.Region s) = None
+as_term (Reg.Term r) = Some r
 
 -- the same, and its region is in the copy
 unfoldable pub as_live : Copy → Register → Option Ref
-as_live c Reg.Empty = none
-as_live c (Reg.Region s) = none
-as_live c (Reg.Term r) = if live c r.stamp then some r else none
+as_live c Reg.Empty = None
+as_live c (Reg.Region s) = None
+as_live c (Reg.Term r) = if live c r.stamp then Some r else None
 
 -- what register i holds, as one of these
 abbrev pub region_at : Copy → ℕ → Option Region
@@ -72,8 +71,8 @@ live_at c i = as_live c (reg c i)
 -- ---- op 2: the region leaves the present copy
 
 unfoldable pub kill : Copy → Option Region → Reply
-kill c none = refuse c 3
-kill c (some g) = done (record { registers = c.registers; regions = keep (λ h. not (stamped g.stamp h)) c.regions })
+kill c None = refuse c 3
+kill c (Some g) = done (record { registers = c.registers; regions = keep (λ h. not (stamped g.stamp h)) c.regions })
 
 -- ---- ops 3 to 5: a term is put into a region, and d refers to its first cell
 
@@ -81,31 +80,31 @@ abbrev pub with_pages : ℕ → List Page → Region → Region
 with_pages s ps g = if stamped s g then record { stamp = s; pages = ps } else g
 
 unfoldable pub placed : Copy → ℕ → ℕ → Option Put → Reply
-placed c d s none = refuse c 5
-placed c d s (some p) =
+placed c d s None = refuse c 5
+placed c d s (Some p) =
     done (record {
       registers = set c.registers d (Reg.Term (record { stamp = s; address = p.address }));
       regions = map (with_pages s p.pages) c.regions;
     })
 
 unfoldable pub build : Option ℕ → Copy → ℕ → Option Region → Option (List Cell) → Reply
-build page c d none ws = refuse c 3
-build page c d (some g) none = refuse c 4
-build page c d (some g) (some ws) = placed c d g.stamp (put page ws g.pages)
+build page c d None ws = refuse c 3
+build page c d (Some g) None = refuse c 4
+build page c d (Some g) (Some ws) = placed c d g.stamp (put page ws g.pages)
 
 -- the arguments of op 5, as they stand in the registers b, b + 1, ..: each a term, none dead
 unfoldable pub operand : Option Ref → Option (List Cell) → Option (List Cell)
-operand none ws = none
-operand (some r) none = none
-operand (some r) (some ws) = some (Argument r ∷ ws)
+operand None ws = None
+operand (Some r) None = None
+operand (Some r) (Some ws) = Some (Argument r ∷ ws)
 
 unfoldable pub operands : ℕ → Copy → ℕ → Option (List Cell)
-operands zero c b = some []
+operands zero c b = Some []
 operands (suc n) c b = operand (live_at c b) (operands n c (suc b))
 
 unfoldable pub headed : Cell → Option (List Cell) → Option (List Cell)
-headed w none = none
-headed w (some ws) = some (w ∷ ws)
+headed w None = None
+headed w (Some ws) = Some (w ∷ ws)
 
 -- ---- op 6
 
@@ -118,9 +117,9 @@ unified c budget r =
     }
 
 unfoldable pub unify_terms : Copy → Option Ref → Option Ref → ℕ → Reply
-unify_terms c none y budget = refuse c 4
-unify_terms c (some r) none budget = refuse c 4
-unify_terms c (some r) (some s) budget = unified c budget (solve budget c (record { left = r; right = s } ∷ []))
+unify_terms c None y budget = refuse c 4
+unify_terms c (Some r) None budget = refuse c 4
+unify_terms c (Some r) (Some s) budget = unified c budget (solve budget c (record { left = r; right = s } ∷ []))
 
 -- ---- op 7
 
@@ -145,8 +144,8 @@ seen c d (At r w) =
     record { answer = record { status = 0; kind = kind_of w; pairs = 0; payload = payload_of w }; copy = set_reg c d (Reg.Term r) }
 
 unfoldable pub found_from : Copy → Option Ref → Found
-found_from c none = Dead
-found_from c (some r) = deref c r
+found_from c None = Dead
+found_from c (Some r) = deref c r
 
 -- ---- op 8
 
@@ -182,8 +181,8 @@ last_stamp = 4294967295
 
 -- op 1: the next stamp, and the lowest free page, empty
 unfoldable pub new_region : Machine → ℕ → Option ℕ → Outcome
-new_region m d none = refused m 5
-new_region m d (some p) =
+new_region m d None = refused m 5
+new_region m d (Some p) =
     record {
       answer = record { status = 0; kind = 0; pairs = 0; payload = m.next };
       machine = record {
@@ -217,8 +216,8 @@ exec m (MakeRegion d) =
     if leb m.limits.slots (slots m) then refused m 6 else
     new_region m d (lowest (free m))
 exec m (KillRegion a) = within m (kill m.present (region_at m.present a))
-exec m (MakeVar d a) = building m d a (some (Unbound ∷ []))
-exec m (Integer d a v) = building m d a (some (Int v ∷ []))
+exec m (MakeVar d a) = building m d a (Some (Unbound ∷ []))
+exec m (Integer d a v) = building m d a (Some (Int v ∷ []))
 exec m (Structure d a b f n) = building m d a (headed (Head f n) (operands n m.present b))
 exec m (Unify a b budget) = within m (unify_terms m.present (live_at m.present a) (live_at m.present b) budget)
 exec m (Deref d a) = within m (seen m.present d (found_from m.present (term_at m.present a)))

@@ -1,8 +1,7 @@
 -- Document 01, "Sound machine", clause by clause. What the copies' form rules out needs no line here: a fill has no gap, registers hold
 -- tags 0, 7 and 8 only, link words follow the lists, bits not named are zero.
-use Rattle.std.specs.Prelude.{◌≡◌, true, false, ℕ, zero, suc, ◌+◌, ◌*◌, ◌/◌, ◌%◌, ◌^◌, ◌≤◌, ◌<◌, length}
+use Rattle.std.specs.Prelude.{◌≡◌, true, false, ℕ, zero, suc, ◌+◌, ◌*◌, ◌/◌, ◌%◌, ◌^◌, ◌≤◌, ◌<◌, length, Some}
 use mathlib.Core.List.{List, [], ◌∷◌, ◌++◌, map, Memᴰ, Nodup}
-use Rattle.std.proofs.Math.Option.{some}
 use Rattle.laws.specs.Base.{Each, Pairs}
 use Rattle.words.specs.declared.Ref.{Ref}
 use Rattle.words.specs.declared.Cell.{Cell}
@@ -95,13 +94,13 @@ IsVariable (Argument r) = ⊥
 
 -- a reference whose region is in the copy names a filled word of tag 1, 2, 3 or 4 there
 unfoldable pub Names : Copy → Ref → Type 0
-Names c r = live c r.stamp ≡ true → (w : Cell) × (cell_at c r ≡ some w) × Starts w
+Names c r = live c r.stamp ≡ true → (w : Cell) × (cell_at c r ≡ Some w) × Starts w
 
 -- what the cell w at r refers to; a variable bound to a live variable is the younger
 unfoldable pub CellNames : Copy → Ref → Cell → Type 0
 unfolding Names
 CellNames c r Unbound = Unit {0}
-CellNames c r (Bound s) = Names c s × ((w : Cell) → cell_at c s ≡ some w → IsVariable w → younger r s ≡ true)
+CellNames c r (Bound s) = Names c s × ((w : Cell) → cell_at c s ≡ Some w → IsVariable w → younger r s ≡ true)
 CellNames c r (Int v) = Unit {0}
 CellNames c r (Head f n) = Unit {0}
 CellNames c r (Argument s) = Names c s
@@ -120,7 +119,7 @@ pub record CopyOk (l : Limits) (next : ℕ) (c : Copy) : Type 0 where
   pub registers_name : Each (RegisterNames c) c.registers
   pub regions : Each (RegionOk l next) c.regions
   pub in_order : Pairs (λ (g h : Region). g.stamp < h.stamp) c.regions
-  pub cells_name : (r : Ref) (w : Cell) → cell_at c r ≡ some w → CellNames c r w
+  pub cells_name : (r : Ref) (w : Cell) → cell_at c r ≡ Some w → CellNames c r w
 
 -- ---- from an older copy to a newer one
 

@@ -1,6 +1,5 @@
 -- Demand 3: striking out what backtracking undid. Each definition computes.
-use Rattle.std.specs.Prelude.{List, [], ◌∷◌, ℕ, zero, suc, ◌+◌}
-use Rattle.std.proofs.Math.Option.{Option, none, some}
+use Rattle.std.specs.Prelude.{List, [], ◌∷◌, ℕ, zero, suc, ◌+◌, Option, Some, None}
 use Rattle.words.specs.declared.Step.{Step}
 use Rattle.words.specs.declared.Step.TheVariants.{Refused, MakeRegion, KillRegion, MakeVar, Integer, Structure, Unify, Deref, Destruct, PushChoice, Cut, Backtrack}
 use Rattle.words.specs.declared.Answer.{Answer}
@@ -72,25 +71,25 @@ regions_in used = 0
 regions_in other = 0
 
 abbrev pub longer : ℕ → Option Stretch → Option Stretch
-longer n none = none
-longer n (some t) = some (record { lines = suc t.lines; regions = n + t.regions })
+longer n None = None
+longer n (Some t) = Some (record { lines = suc t.lines; regions = n + t.regions })
 
 unfoldable pub onward : Fate → ℕ → (ℕ → Option Stretch) → Option Stretch
 onward (stands deep) n rest = longer n (rest deep)
-onward ended n rest = some (record { lines = 1; regions = 0 })
-onward lost n rest = none
+onward ended n rest = Some (record { lines = 1; regions = 0 })
+onward lost n rest = None
 
 unfoldable pub stretch : ℕ → List Line → Option Stretch
-stretch deep [] = none
+stretch deep [] = None
 stretch deep (l ∷ ls) = onward (fate (event l) deep) (regions_in (event l)) (λ d. stretch d ls)
 
 -- the stretch that starts at a line: only an accepted push starts one
 unfoldable pub stretch_at : Event → List Line → Option Stretch
-stretch_at made ls = none
+stretch_at made ls = None
 stretch_at pushed ls = stretch 0 ls
-stretch_at dropped ls = none
-stretch_at used ls = none
-stretch_at other ls = none
+stretch_at dropped ls = None
+stretch_at used ls = None
+stretch_at other ls = None
 
 -- ---- striking
 
@@ -101,8 +100,8 @@ pub data Item : Type 0 where
 
 -- a line that stays, or the stretch that it starts
 unfoldable pub struck : Line → Option Stretch → (ℕ → List Item) → List Item
-struck l none rest = kept l ∷ rest 0
-struck l (some t) rest = moved t.regions ∷ rest t.lines
+struck l None rest = kept l ∷ rest 0
+struck l (Some t) rest = moved t.regions ∷ rest t.lines
 
 -- the first `skip` lines belong to a stretch that is being struck. Stretches are nested or apart, so the first that starts is a widest one
 unfoldable pub strike_from : ℕ → List Line → List Item

@@ -1,6 +1,5 @@
 -- Document 01, "Steps": deref, and unification as a machine that works off an agenda of pairs.
-use Rattle.std.specs.Prelude.{Bool, ◌&&◌, List, [], ◌∷◌, ◌++◌, ℕ, zero, suc, ◌+◌, ◌*◌, ◌^◌, ltb, eqb, if◌then◌else◌}
-use Rattle.std.proofs.Math.Option.{Option, none, some}
+use Rattle.std.specs.Prelude.{Bool, ◌&&◌, List, [], ◌∷◌, ◌++◌, ℕ, zero, suc, ◌+◌, ◌*◌, ◌^◌, ltb, eqb, if◌then◌else◌, Option, Some, None}
 use Rattle.words.specs.declared.Ref.{Ref}
 use Rattle.words.specs.declared.Cell.{Cell}
 use Rattle.words.specs.declared.Cell.TheVariants.{Unbound, Bound, Int, Head, Argument}
@@ -13,12 +12,12 @@ use Rattle.machine.specs.Copies.{Copy, cell_at, set_cell}
 
 -- one cell: a bound variable is followed by `next`
 unfoldable pub on_cell : Ref → Option Cell → (Ref → Found) → Found
-on_cell r none next = Dead
-on_cell r (some Unbound) next = At r Unbound
-on_cell r (some (Bound s)) next = next s
-on_cell r (some (Int v)) next = At r (Int v)
-on_cell r (some (Head f n)) next = At r (Head f n)
-on_cell r (some (Argument s)) next = Dead
+on_cell r None next = Dead
+on_cell r (Some Unbound) next = At r Unbound
+on_cell r (Some (Bound s)) next = next s
+on_cell r (Some (Int v)) next = At r (Int v)
+on_cell r (Some (Head f n)) next = At r (Head f n)
+on_cell r (Some (Argument s)) next = Dead
 
 -- deref follows bound variables to a word of tag 1, 3 or 4. The number bounds how many cells are looked at
 unfoldable pub follow : ℕ → Copy → Ref → Found
@@ -35,12 +34,12 @@ deref c r = follow (rank r + 2) c r
 
 -- the references in the n words after a structure's head (in a sound machine all n are there)
 unfoldable pub on_argument : Option Cell → List Ref → List Ref
-on_argument none rs = []
-on_argument (some Unbound) rs = []
-on_argument (some (Bound s)) rs = []
-on_argument (some (Int v)) rs = []
-on_argument (some (Head f n)) rs = []
-on_argument (some (Argument r)) rs = r ∷ rs
+on_argument None rs = []
+on_argument (Some Unbound) rs = []
+on_argument (Some (Bound s)) rs = []
+on_argument (Some (Int v)) rs = []
+on_argument (Some (Head f n)) rs = []
+on_argument (Some (Argument r)) rs = r ∷ rs
 
 unfoldable pub arguments_at : ℕ → Copy → Ref → List Ref
 arguments_at zero c r = []

@@ -4,15 +4,16 @@
 
 use words::{Cell, Ref};
 
-// Where following a reference ends: at a cell of tag 1, 3 or 4, or at a dead reference.
-#[derive(Clone, Copy)]
+// Where following a reference ends: at a cell of tag 1, 3 or 4, or at a dead reference. It is an enum of its own and no Option, since dead is an answer
+// (docs/DECISIONS.md, the forms).
+#[derive(Clone, Copy, Debug, PartialEq, Eq)]
 pub enum Found {
     Dead,
     At(Ref, Cell),
 }
 
 // What the state call answers of a sound session.
-#[derive(Clone, Copy)]
+#[derive(Clone, Copy, Debug, PartialEq, Eq)]
 pub struct State {
     pub free: u16,
     pub choices: u8,

@@ -1,10 +1,5 @@
 pub mod Links
-pub mod Rows
-pub mod Fills
-pub mod Sought
-pub mod Undoing
-pub mod Copying
+pub mod Passes
+pub mod Unturned
 pub mod UndoPasses
 pub mod UndoWhole
-pub mod Making
-pub mod Unturned

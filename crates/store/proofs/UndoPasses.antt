@@ -1,4 +1,5 @@
 -- What each pass of the undo leaves at an address, said of the memory that it was given: a cell, a link word, a link's marks. All else stays, and so do the lengths.
+use Rattle.std.specs.Prelude.{if◌then◌else◌}
 use mathlib.Core.Bool.{Bool, false}
 use mathlib.Core.List.{List}
 use mathlib.Core.Logic.{◌⊎◌, inl, inr}
@@ -7,7 +8,6 @@ use Prim.Native.Nat.{ℕ, ◌+◌, ◌-◌, ◌*◌, ◌/◌, ◌%◌, ◌<◌, 
 use lib.Dec.{eqb}
 use lib.ListN.{length, get_or, set}
 use borrow.Author.Tests.{ne_eqb}
-use Rattle.laws.specs.Pick.{pick}
 use Rattle.laws.specs.Loops.{run}
 use Rattle.laws.proofs.Stores.{Stores, run_keeps, stores_length, stores_elsewhere, stores_before, stores_there}
 use Rattle.laws.proofs.Tests.{tests}
@@ -15,7 +15,7 @@ use Rattle.words.specs.Fields.{bits}
 use Rattle.store.specs.declared.Which.{Which}
 use Rattle.store.specs.Memory.{Memory, memory}
 use Rattle.store.specs.Undo.{struck, cell_word_after, cell_born_after, cell_turn_after, cell_after, link_word_after, link_after, link_born_after, link_turn_after, mark_after, cells_after, links_after, marks_after}
-use Rattle.store.proofs.Unturned.{pick_map}
+use Rattle.store.proofs.Unturned.{if_map}
 
 abbrev pub heap_at : Memory → ℕ → ℕ
 heap_at x a = get_or x.heap a 0
@@ -86,7 +86,7 @@ module _ (first pages j last : ℕ) (which : Which) (m : Memory) where
       ≡ set (g x) (cell_of i) (v (cell_of i) x)) →
       Stores g turn cell_of no_cell (λ i. v (cell_of i))
   unfolding cell_after
-  cell_stores g v h = record { apart = λ i n e. omega tests; turn = λ i x. pick_map g (no_cell i) x _ ∙ ap (pick (no_cell i) (g x)) (h i x) }
+  cell_stores g v h = record { apart = λ i n e. omega tests; turn = λ i x. if_map g (no_cell i) x _ ∙ ap (λ (l : List ℕ). if no_cell i then g x else l) (h i x) }
 
   words : Stores (λ x. x.heap) turn cell_of no_cell (λ i. word_at (cell_of i))
   words = cell_stores (λ x. x.heap) word_at (λ i x. refl)
@@ -170,7 +170,7 @@ module _ (first pages j : ℕ) (which : Which) (m : Memory) where
   link_word_at a x = link_word_after (struck_at which x a) j (heap_at x a) (born_at x a) (born_at x (bits 19 8 (heap_at x a) * 16))
 
   links : Stores (λ x. x.heap) turn_link link_of never (λ i. link_word_at (link_of i))
-  unfolding link_after pick
+  unfolding link_after
   links = record { apart = λ i n e. omega tests; turn = λ i x. refl }
 
   born_stays : (k : ℕ) → (run turn_link k m).born ≡ m.born
@@ -237,11 +237,11 @@ module _ (first pages j last : ℕ) (which : Which) (m : Memory) where
   link_turn_at a x = link_turn_after (struck_at which x a) j last (heap_at x a) (turned_at x a)
 
   link_borns : Stores (λ x. x.born) turn_marks marks_of never (λ i. link_born_at (marks_of i))
-  unfolding mark_after pick
+  unfolding mark_after
   link_borns = record { apart = λ i n e. omega tests; turn = λ i x. refl }
 
   link_turneds : Stores (λ x. x.turned) turn_marks marks_of never (λ i. link_turn_at (marks_of i))
-  unfolding mark_after pick
+  unfolding mark_after
   link_turneds = record { apart = λ i n e. omega tests; turn = λ i x. refl }
 
   heap_stays : (k : ℕ) → (run turn_marks k m).heap ≡ m.heap

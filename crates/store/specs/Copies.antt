@@ -1,33 +1,28 @@
 -- Document 01, "The copy machine", on the lent memory: what push, cut, backtrack and kill answer, and the memory and the tables after them.
 -- n is the number of the present copy: the saved copies and one more.
-use Rattle.std.specs.Prelude.{List, ℕ, ◌+◌, ◌-◌, eqb, ltb, set}
-use Rattle.laws.specs.Pick.{pick}
+use Rattle.std.specs.Prelude.{List, ℕ, ◌+◌, ◌-◌, ◌||◌, eqb, ltb, set, if◌then◌else◌}
 use Rattle.words.specs.declared.Answer.{Answer}
-use Rattle.words.specs.declared.Register.TheVariants.{Empty, Region, Term}
-use Rattle.words.specs.declared.Held.{Held}
-use Rattle.words.specs.declared.Held.TheVariants.{Holds, Broken}
 use Rattle.words.specs.Answers.{plain}
-use Rattle.words.specs.Words.{unpack_register}
 use Rattle.store.specs.declared.Which.TheVariants.{Marked, Stamped}
 use Rattle.store.specs.Memory.{Memory}
-use Rattle.store.specs.Pages.{live_page, on_sought}
-use Rattle.store.specs.Rows.{present, register_at, row_copied, row_cleared}
+use Rattle.store.specs.Pages.{live_page, on_page}
+use Rattle.store.specs.Rows.{present, row_copied, row_cleared, held_at, on_region}
 use Rattle.store.specs.Undo.{undone}
 
 -- ---- push: the present copy's registers are saved, and nothing else changes. A mark has 8 bits, so there is no copy 256, whatever the limit
 
 unfoldable pub push_answer : ℕ → List ℕ → Answer
-push_answer choices t = pick (ltb choices (present t)) (plain 8) (pick (eqb (present t) 255) (plain 8) (plain 0))
+push_answer choices t = if ltb choices (present t) || eqb (present t) 255 then plain 8 else plain 0
 
 unfoldable pub push_tables : ℕ → List ℕ → List ℕ
 push_tables choices t =
     let n : ℕ = present t in
-    pick (ltb choices n) t (pick (eqb n 255) t (set (row_copied n (n + 1) t) 1 (n + 1)))
+    if ltb choices n || eqb n 255 then t else set (row_copied n (n + 1) t) 1 (n + 1)
 
 -- ---- cut and backtrack: with no saved copy they are refused
 
 unfoldable pub drop_answer : List ℕ → Answer
-drop_answer t = pick (ltb (present t) 2) (plain 9) (plain 0)
+drop_answer t = if ltb (present t) 2 then plain 9 else plain 0
 
 -- the newest row goes, and copy `last` is the present one
 unfoldable pub row_dropped : ℕ → ℕ → List ℕ → List ℕ
@@ -37,42 +32,32 @@ row_dropped n last t = set (row_cleared n t) 1 last
 unfoldable pub backtrack_memory : ℕ → ℕ → List ℕ → Memory → Memory
 backtrack_memory first pages t m =
     let n : ℕ = present t in
-    pick (ltb n 2) m (undone first pages (Marked 0) n (n - 1) m)
+    if ltb n 2 then m else undone first pages (Marked 0) n (n - 1) m
 
 unfoldable pub backtrack_tables : List ℕ → List ℕ
 backtrack_tables t =
     let n : ℕ = present t in
-    pick (ltb n 2) t (row_dropped n (n - 1) t)
+    if ltb n 2 then t else row_dropped n (n - 1) t
 
 -- cut: what copy n - 1 alone had goes, and the present copy takes its number
 unfoldable pub cut_memory : ℕ → ℕ → List ℕ → Memory → Memory
 cut_memory first pages t m =
     let n : ℕ = present t in
-    pick (ltb n 2) m (undone first pages (Marked (n - 1)) (n - 1) (n - 1) m)
+    if ltb n 2 then m else undone first pages (Marked (n - 1)) (n - 1) (n - 1) m
 
 unfoldable pub cut_tables : List ℕ → List ℕ
 cut_tables t =
     let n : ℕ = present t in
-    pick (ltb n 2) t (row_dropped n (n - 1) (row_copied n (n - 1) t))
+    if ltb n 2 then t else row_dropped n (n - 1) (row_copied n (n - 1) t)
 
 -- ---- kill: the region in register a, if the present copy has it. The registers stay
 
 -- the region of stamp s
 unfoldable pub stamp_answer : ℕ → ℕ → ℕ → Memory → Answer
-stamp_answer first pages s m = on_sought (live_page first pages m.heap m.turned s) (λ p. plain 0) (plain 3)
+stamp_answer first pages s m = on_page (live_page first pages m.heap m.turned s) (λ p. plain 0) (plain 3)
 
 unfoldable pub stamp_killed : ℕ → ℕ → ℕ → ℕ → Memory → Memory
-stamp_killed first pages n s m = on_sought (live_page first pages m.heap m.turned s) (λ p. undone first pages (Stamped s) n n m) m
-
--- what register a of the present copy holds; and by the stamp, if it holds a region
-unfoldable pub held_at : List ℕ → ℕ → Held
-held_at t a = unpack_register 12 (register_at t (present t) a)
-
-unfoldable pub on_region : {A : Type 0} → Held → (ℕ → A) → A → A
-on_region (Holds Empty) f z = z
-on_region (Holds (Region s)) f z = f s
-on_region (Holds (Term r)) f z = z
-on_region Broken f z = z
+stamp_killed first pages n s m = on_page (live_page first pages m.heap m.turned s) (λ p. undone first pages (Stamped s) n n m) m
 
 unfoldable pub kill_answer : ℕ → ℕ → List ℕ → ℕ → Memory → Answer
 kill_answer first pages t a m = on_region (held_at t a) (λ s. stamp_answer first pages s m) (plain 3)

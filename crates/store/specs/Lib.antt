@@ -1,6 +1,6 @@
 pub mod Pages
 pub mod Rows
 pub mod Memory
+pub mod Make
 pub mod Undo
 pub mod Copies
-pub mod Make

@@ -1,23 +1,17 @@
 -- Op 1, makeregion, over the lent memory: what it answers, and the tables and the memory after it.
-use Rattle.std.specs.Prelude.{List, [], ℕ, ◌+◌, ◌*◌, ◌%◌, ◌^◌, leb, eqb, get_or, set}
-use Rattle.std.proofs.Math.Option.{none}
-use Rattle.laws.specs.Pick.{pick}
+use Rattle.std.specs.Prelude.{List, ℕ, ◌+◌, ◌*◌, ◌%◌, ◌^◌, leb, eqb, get_or, set, if◌then◌else◌, None}
 use Rattle.words.specs.declared.Register.TheVariants.{Region}
 use Rattle.words.specs.declared.Answer.{Answer}
 use Rattle.words.specs.Words.{link_word, register_word}
 use Rattle.words.specs.Answers.{plain}
 use Rattle.machine.specs.Run.{last_stamp}
-use Rattle.store.specs.Pages.{lowest_free, slot_count, on_sought}
+use Rattle.store.specs.Pages.{lowest_free, slot_count, on_page}
 use Rattle.store.specs.Rows.{present, register_set}
-use Rattle.store.specs.Memory.{Memory, memory, fill_at}
-
--- the heap and its born marks, all that filling words needs: the turned marks take no part
-abbrev pub unturned : List ℕ → List ℕ → Memory
-unturned h b = memory h b []
+use Rattle.store.specs.Memory.{Memory, fill_at}
 
 -- page p becomes the newest page of the region of stamp s, in copy n: its link has no next page
 unfoldable pub page_started : ℕ → ℕ → ℕ → Memory → Memory
-page_started n p s m = fill_at n (p * 16) (link_word 12 s none) m
+page_started n p s m = fill_at n (p * 16) (link_word 12 s None) m
 
 -- the next stamp, 32 bits of word 0 of the tables
 unfoldable pub next_stamp : List ℕ → ℕ
@@ -30,9 +24,9 @@ region_noted n d s t = set (register_set t n d (register_word 12 (Region s))) 0 
 -- makeregion is refused with 7, then 6, then 5; else the region has the lowest free page
 unfoldable pub on_make : {A : Type 0} → ℕ → ℕ → ℕ → List ℕ → List ℕ → (ℕ → A) → (ℕ → A) → A
 on_make first pages slots t h refused made =
-    pick (eqb (next_stamp t) last_stamp) (refused 7)
-    (pick (leb slots (slot_count first pages h)) (refused 6)
-    (on_sought (lowest_free first pages h) made (refused 5)))
+    if eqb (next_stamp t) last_stamp then refused 7
+    else if leb slots (slot_count first pages h) then refused 6
+    else on_page (lowest_free first pages h) made (refused 5)
 
 abbrev pub stamp_given : ℕ → Answer
 stamp_given s = record { status = 0; kind = 0; pairs = 0; payload = s }

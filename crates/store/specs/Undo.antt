@@ -3,8 +3,7 @@
 -- cut of copy n - 1:      j = n - 1, last = n - 1, struck: the pages whose region that copy was the newest to have, whose mark is n - 1
 -- kill of stamp s:        j = n,     last = n,     struck: the pages of that stamp
 -- It goes in three passes: all cells, which read their page's link; all link words, which read the born mark of the next page; the links' marks.
-use Rattle.std.specs.Prelude.{Bool, false, ℕ, ◌+◌, ◌-◌, ◌*◌, ◌/◌, ◌%◌, ◌^◌, min, eqb, get_or, set}
-use Rattle.laws.specs.Pick.{pick}
+use Rattle.std.specs.Prelude.{Bool, not, ◌&&◌, ℕ, ◌+◌, ◌-◌, ◌*◌, ◌/◌, ◌%◌, ◌^◌, min, eqb, get_or, set, if◌then◌else◌}
 use Rattle.laws.specs.Loops.{run}
 use Rattle.words.specs.Fields.{bits}
 use Rattle.store.specs.declared.Which.{Which}
@@ -12,23 +11,23 @@ use Rattle.store.specs.declared.Which.TheVariants.{Marked, Stamped}
 use Rattle.store.specs.Memory.{Memory, memory}
 
 -- is a page struck, by its link word and its link's turned mark? A free page never is
-unfoldable pub struck_by : Which → ℕ → ℕ → Bool
+abbrev pub struck_by : Which → ℕ → ℕ → Bool
 struck_by (Marked t) w u = eqb u t
 struck_by (Stamped s) w u = eqb (bits 28 32 w) s
 
-unfoldable pub struck : Which → ℕ → ℕ → Bool
-struck which w u = pick (eqb w 0) false (struck_by which w u)
+abbrev pub struck : Which → ℕ → ℕ → Bool
+struck which w u = not (eqb w 0) && struck_by which w u
 
 -- ---- a cell, with its word, its born mark and its turned mark; s: its page is struck
 
-unfoldable pub cell_word_after : Bool → ℕ → ℕ → ℕ → ℕ → ℕ
-cell_word_after s j w b u = pick s (pick (eqb b j) 0 (pick (eqb u j) (2 ^ 60) w)) w
+abbrev pub cell_word_after : Bool → ℕ → ℕ → ℕ → ℕ → ℕ
+cell_word_after s j w b u = if s && eqb b j then 0 else if s && eqb u j then 2 ^ 60 else w
 
-unfoldable pub cell_born_after : Bool → ℕ → ℕ → ℕ → ℕ
-cell_born_after s j last b = pick s (pick (eqb b j) 0 (min b last)) (min b last)
+abbrev pub cell_born_after : Bool → ℕ → ℕ → ℕ → ℕ
+cell_born_after s j last b = if s && eqb b j then 0 else min b last
 
-unfoldable pub cell_turn_after : Bool → ℕ → ℕ → ℕ → ℕ → ℕ
-cell_turn_after s j last b u = pick s (pick (eqb b j) 0 (pick (eqb u j) 0 (min u last))) (min u last)
+abbrev pub cell_turn_after : Bool → ℕ → ℕ → ℕ → ℕ → ℕ
+cell_turn_after s j last b u = if s && eqb b j then 0 else if s && eqb u j then 0 else min u last
 
 -- the cell at address a, if it is no link
 unfoldable pub cell_after : Which → ℕ → ℕ → ℕ → Memory → Memory
@@ -38,13 +37,14 @@ cell_after which j last a m =
     let w : ℕ = get_or m.heap a 0 in
     let b : ℕ = get_or m.born a 0 in
     let u : ℕ = get_or m.turned a 0 in
-    pick (eqb (a % 16) 0) m
-    (memory (set m.heap a (cell_word_after s j w b u)) (set m.born a (cell_born_after s j last b)) (set m.turned a (cell_turn_after s j last b u)))
+    if eqb (a % 16) 0 then m
+    else memory (set m.heap a (cell_word_after s j w b u)) (set m.born a (cell_born_after s j last b)) (set m.turned a (cell_turn_after s j last b u))
 
 -- ---- the link word of page p: the page goes, or it loses a next page that goes; next is that page's born mark
 
-unfoldable pub link_word_after : Bool → ℕ → ℕ → ℕ → ℕ → ℕ
-link_word_after s j w b next = pick s (pick (eqb b j) 0 (pick (eqb (bits 27 1 w) 1) (pick (eqb next j) (w - w % 2 ^ 28) w) w)) w
+abbrev pub link_word_after : Bool → ℕ → ℕ → ℕ → ℕ → ℕ
+link_word_after s j w b next =
+    if s && eqb b j then 0 else if s && eqb (bits 27 1 w) 1 && eqb next j then w - w % 2 ^ 28 else w
 
 unfoldable pub link_after : Which → ℕ → ℕ → Memory → Memory
 link_after which j p m =
@@ -55,14 +55,14 @@ link_after which j p m =
 -- ---- the marks of page p's link, by its new word w
 
 -- a region whose newest copy is the present one has the mark 0
-unfoldable pub gone_after : ℕ → ℕ → ℕ
-gone_after last u = pick (eqb u last) 0 u
+abbrev pub gone_after : ℕ → ℕ → ℕ
+gone_after last u = if eqb u last then 0 else u
 
-unfoldable pub link_born_after : ℕ → ℕ → ℕ → ℕ
-link_born_after last w b = pick (eqb w 0) 0 (min b last)
+abbrev pub link_born_after : ℕ → ℕ → ℕ → ℕ
+link_born_after last w b = if eqb w 0 then 0 else min b last
 
-unfoldable pub link_turn_after : Bool → ℕ → ℕ → ℕ → ℕ → ℕ
-link_turn_after s j last w u = pick (eqb w 0) 0 (gone_after last (pick s (j - 1) u))
+abbrev pub link_turn_after : Bool → ℕ → ℕ → ℕ → ℕ → ℕ
+link_turn_after s j last w u = if eqb w 0 then 0 else gone_after last (if s then j - 1 else u)
 
 unfoldable pub mark_after : Which → ℕ → ℕ → ℕ → Memory → Memory
 mark_after which j last p m =

@@ -1,155 +1,110 @@
 // What the link words tell: free pages, slots, a region's newest page and its fill.
 
-ghost use Rattle.std.specs.Prelude.{◌≡◌, ◌*◌, get_or};
+ghost use Rattle.std.specs.Prelude.{◌≡◌, ◌+◌, ◌<◌, ◌≤◌, ◌^◌, IfSome, eqb, get_or};
 ghost use Rattle.laws.specs.Loops.{seek};
-ghost use Rattle.store.specs.Pages.{has_link, is_free, lowest_free, newest_page, live_page, fill, free_count, is_last, slot_count};
+ghost use Rattle.store.specs.Pages.{has_link, lowest_free, newest_page, live_page, fill, free_count, is_last, slot_count};
 
-use crate::cells;
-use laws::Sought;
-use words::heap::{STAMP_AT, TAG_AT};
+use crate::{PageRange, View};
+use std::ops::Range;
+use words::Link;
+use words::heap::has_next;
 
-// the bit of a link that says whether there is a next page
-const HAS_NEXT_AT: u64 = 134217728;
-
-// The link word of page p. A page past the end has none, and for it p * 16 might not fit a usize.
-pub fn link(heap: &[u64], p: usize) -> u64
-    ensures { result ≡ get_or heap.now (p * 16) 0 }
-{
-    let last = heap.len() / 16;
-    if p <= last {
-        cells::word(heap, p * 16)
-    } else {
-        0
+impl PageRange {
+    // The numbers of the pages.
+    pub fn numbers(&self) -> Range<usize>
+        ensures start { result.start ≡ self.now.first }
+        ensures end { result.end ≡ self.now.first + self.now.count }
+    {
+        let first = self.first as usize;
+        first..first + self.count as usize
     }
-}
-
-// The mark of that link.
-pub fn link_mark(marks: &[u8], p: usize) -> u8
-    ensures { result ≡ get_or marks.now (p * 16) 0 }
-{
-    let last = marks.len() / 16;
-    if p <= last {
-        cells::mark(marks, p * 16)
-    } else {
-        0
-    }
-}
-
-// The first page with this link word.
-fn first_with(heap: &[u64], first: u16, pages: u16, w: u64) -> Sought
-    ensures { result ≡ seek (has_link heap.now w) pages first }
-{
-    let mut p = first as usize;
-    let end = p + pages as usize;
-    while p < end {
-        if link(heap, p) == w {
-            return Sought::At(p);
-        }
-        p += 1;
-    }
-    Sought::Nowhere
-}
-
-pub fn lowest_free(heap: &[u64], first: u16, pages: u16) -> Sought
-    ensures { result ≡ lowest_free first pages heap.now }
-{
-    first_with(heap, first, pages, 0)
-}
-
-// The newest page of the region of a stamp: the one page whose link has this stamp and no next page.
-pub fn newest_page(heap: &[u64], first: u16, pages: u16, stamp: u32) -> Sought
-    ensures { result ≡ newest_page first pages heap.now stamp }
-{
-    first_with(heap, first, pages, 6 * TAG_AT + stamp as u64 * STAMP_AT)
-}
-
-// The same, if the present copy has the region.
-pub fn live_page(heap: &[u64], turned: &[u8], first: u16, pages: u16, stamp: u32) -> Sought
-    ensures { result ≡ live_page first pages heap.now turned.now stamp }
-{
-    let Sought::At(p) = newest_page(heap, first, pages, stamp) else {
-        return Sought::Nowhere;
-    };
-    if link_mark(turned, p) == 0 {
-        Sought::At(p)
-    } else {
-        Sought::Nowhere
-    }
-}
-
-// How many words of page p are filled, from word 1 on.
-pub fn fill(heap: &[u64], p: usize) -> usize
-    ensures { result ≡ fill heap.now p }
-{
-    let last = heap.len() / 16;
-    if last < p {
-        return 0;
-    }
-    let start = p * 16 + 1;
-    let mut i = 0;
-    while i < 15 {
-        if cells::word(heap, start + i) == 0 {
-            return i;
-        }
-        i += 1;
-    }
-    i
-}
-
-fn is_free(heap: &[u64], p: usize) -> bool
-    ensures { result ≡ is_free heap.now p }
-{
-    link(heap, p) == 0
-}
-
-pub fn free_count(heap: &[u64], first: u16, pages: u16) -> usize
-    ensures { result ≡ free_count first pages heap.now }
-{
-    let mut p = first as usize;
-    let end = p + pages as usize;
-    let mut free: usize = 0;
-    while p < end {
-        if is_free(heap, p) {
-            free += 1;
-            p += 1;
-            continue;
-        }
-        p += 1;
-    }
-    free
 }
 
 // Is this the link of a region's newest page: a link without a next page?
 pub fn is_last(w: u64) -> bool
     ensures { result ≡ is_last w }
 {
-    if w == 0 {
-        false
-    } else {
-        w / HAS_NEXT_AT % 2 == 0
+    w != 0 && !has_next(w)
+}
+
+impl<'a> View<'a> {
+    // The first page with this link word.
+    #[tactic(auto, using(laws::proofs::Scan::found_below))]
+    fn first_with(&self, w: u64) -> Option<usize>
+        ensures found { result ≡ seek (has_link self.now.words.now w) self.now.pages.count self.now.pages.first }
+        ensures below { IfSome result (λ p. p < self.now.pages.first + self.now.pages.count) }
+    {
+        self.pages.numbers().find(|p| self.link(*p) == w)
     }
-}
 
-fn ends_region(heap: &[u64], p: usize) -> bool
-    ensures { result ≡ is_last (get_or heap.now (p * 16) 0) }
-{
-    is_last(link(heap, p))
-}
+    #[tactic(auto, unfolding(crate::specs::Pages::lowest_free))]
+    pub fn lowest_free(&self) -> Option<usize>
+        ensures found { result ≡ lowest_free self.now.pages.first self.now.pages.count self.now.words.now }
+        ensures below { IfSome result (λ p. p < self.now.pages.first + self.now.pages.count) }
+    {
+        self.first_with(0)
+    }
 
-// The slots taken: each region has one newest page.
-pub fn slot_count(heap: &[u64], first: u16, pages: u16) -> usize
-    ensures { result ≡ slot_count first pages heap.now }
-{
-    let mut p = first as usize;
-    let end = p + pages as usize;
-    let mut slots: usize = 0;
-    while p < end {
-        if ends_region(heap, p) {
-            slots += 1;
-            p += 1;
-            continue;
+    // The newest page of the region of a stamp: the one page whose link has this stamp and no next page.
+    #[tactic(auto, unfolding(crate::specs::Pages::newest_page, words::specs::Words::heap_word))]
+    pub fn newest_page(&self, stamp: u32) -> Option<usize>
+        ensures found { result ≡ newest_page self.now.pages.first self.now.pages.count self.now.words.now stamp }
+        ensures below { IfSome result (λ p. p < self.now.pages.first + self.now.pages.count) }
+    {
+        self.first_with(u64::from(Link { stamp, next: None }))
+    }
+
+    // The same, if the present copy has the region.
+    #[tactic(auto, unfolding(crate::specs::Pages::live_page))]
+    pub fn live_page(&self, stamp: u32) -> Option<usize>
+        ensures found { result ≡ live_page self.now.pages.first self.now.pages.count self.now.words.now self.now.turned.now stamp }
+        ensures below { IfSome result (λ p. p < self.now.pages.first + self.now.pages.count) }
+    {
+        let p = self.newest_page(stamp)?;
+        if self.link_turned(p) == 0 {
+            Some(p)
+        } else {
+            None
         }
-        p += 1;
     }
-    slots
+
+    // The first of `count` words from address `start` on that is empty.
+    #[tactic(auto, using(laws::proofs::Scan::found_below))]
+    fn first_empty(&self, start: usize, count: usize) -> Option<usize>
+        requires { start + count < 2 ^ 64 }
+        ensures found { result ≡ seek (λ i. eqb (get_or self.now.words.now (start + i) 0) 0) count 0 }
+        ensures below { IfSome result (λ i. i < count) }
+    {
+        (0..count).find(|i| self.word(start + *i) == 0)
+    }
+
+    // How many words of page p are filled, from word 1 on.
+    #[tactic(auto, using(crate::proofs::Links::no_fill), unfolding(crate::specs::Pages::fill))]
+    pub fn fill(&self, p: usize) -> usize
+        ensures fill { result ≡ fill self.now.words.now p }
+        ensures most { result ≤ 15 }
+    {
+        if self.words.len() / 16 < p {
+            return 0;
+        }
+        self.first_empty(p * 16 + 1, 15).unwrap_or(15)
+    }
+
+    #[tactic(auto, unfolding(crate::specs::Pages::free_count))]
+    pub fn free_count(&self) -> usize
+        ensures { result ≡ free_count self.now.pages.first self.now.pages.count self.now.words.now }
+    {
+        self.pages.numbers().filter(|p| self.link(*p) == 0).count()
+    }
+
+    // The slots taken: each region has one newest page.
+    #[tactic(auto, unfolding(crate::specs::Pages::slot_count))]
+    pub fn slot_count(&self) -> usize
+        ensures { result ≡ slot_count self.now.pages.first self.now.pages.count self.now.words.now }
+    {
+        self.pages
+            .numbers()
+            .filter(|p| is_last(self.link(*p)))
+            .count()
+    }
 }

@@ -1,37 +1,35 @@
 // Is a reference live: is its region in the present copy? The link word of the page that it names tells.
 
-ghost use Rattle.std.specs.Prelude.{◌≡◌, ◌*◌, ◌/◌, ◌^◌, get_or};
-ghost use Rattle.store.specs.Pages.{page_of, live_ref};
+ghost use Rattle.std.specs.Prelude.{◌≡◌};
+ghost use Rattle.store.specs.Pages.{of_stamp, page_of, live_ref};
 
-use crate::pages;
+use crate::View;
 use words::Ref;
 use words::heap::STAMP_AT;
 
 // tag 6, a link's, above the 32 bits of a stamp
-const LINK_TAG: u64 = 25769803776;
+const LINK_TAG: u64 = 6 << 32;
 
-// The tag and the stamp of page p's link, as one number.
-fn tag_and_stamp(heap: &[u64], p: usize) -> u64
-    ensures { result ≡ get_or heap.now (p * 16) 0 / 2 ^ 28 }
-{
-    pages::link(heap, p) / STAMP_AT
-}
-
-// Is page p a page of the region of this stamp, and that region in the present copy?
-pub fn page_of(heap: &[u64], turned: &[u8], p: usize, stamp: u32) -> bool
-    ensures { result ≡ page_of heap.now turned.now p stamp }
-{
-    if tag_and_stamp(heap, p) == LINK_TAG + stamp as u64 {
-        pages::link_mark(turned, p) == 0
-    } else {
-        false
+impl<'a> View<'a> {
+    // Is page p held by the region of this stamp? The tag and the stamp of its link are compared as one number.
+    pub fn of_stamp(&self, p: usize, stamp: u32) -> bool
+        ensures { result ≡ of_stamp self.now.words.now stamp p }
+    {
+        self.link(p) / STAMP_AT == LINK_TAG + stamp as u64
     }
-}
 
-pub fn live(heap: &[u64], turned: &[u8], r: Ref) -> bool
-    ensures { result ≡ live_ref heap.now turned.now r }
-{
-    let address = r.address as usize;
-    let stamp = r.stamp;
-    page_of(heap, turned, address / 16, stamp)
+    // Is it, and is the region in the present copy?
+    #[tactic(auto, unfolding(crate::specs::Pages::page_of))]
+    pub fn page_of(&self, p: usize, stamp: u32) -> bool
+        ensures { result ≡ page_of self.now.words.now self.now.turned.now p stamp }
+    {
+        self.of_stamp(p, stamp) && self.link_turned(p) == 0
+    }
+
+    #[tactic(auto, unfolding(crate::specs::Pages::live_ref))]
+    pub fn live(&self, r: Ref) -> bool
+        ensures { result ≡ live_ref self.now.words.now self.now.turned.now r }
+    {
+        self.page_of(r.address as usize / 16, r.stamp)
+    }
 }

@@ -1,4 +1,5 @@
 -- To read an argument when its pair is taken is to read it when the heads meet, where no word after a head is an unbound variable: a binding changes no other word.
+use Rattle.std.specs.Prelude.{Result, Ok, Err}
 use mathlib.Core.Path.{◌≡◌, refl, sym, ap, subst, ◌∙◌}
 use mathlib.Core.Bool.{Bool, true, false, ◌&&◌, true≢false}
 use mathlib.Core.List.{List, [], ◌∷◌, ◌++◌}
@@ -20,12 +21,15 @@ use Rattle.words.proofs.Rounds.{ref_in_lem}
 use Rattle.machine.specs.declared.Found.{Found}
 use Rattle.machine.specs.declared.Found.TheVariants.{Dead, At}
 use Rattle.machine.specs.Unify.{Pair, younger}
+use Rattle.store.specs.Pages.{live_ref}
 use Rattle.terms.specs.declared.unify.Taken.{Taken}
-use Rattle.terms.specs.declared.unify.Taken.TheVariants.{Died, Differ, Same, Bind, Arguments}
-use Rattle.terms.specs.Deref.{ends_at, on_cell, on_word, deref_in, deref_of}
+use Rattle.terms.specs.declared.unify.Taken.TheVariants.{Same, Bind, Arguments}
+use Rattle.words.specs.declared.Refusal.{Refusal}
+use Rattle.words.specs.declared.Refusal.TheVariants as Refusals
+use Rattle.terms.specs.Deref.{on_cell, on_word, deref_in, deref_of}
 use Rattle.terms.specs.Unify.{meet_of, both_found, look_of, Marked, marked, bind_in, Item, refs, args, left_of, right_of, arg_items, took_pair, solve}
 use Rattle.terms.specs.Eager.{pair, arg_pairs, took_now, solve_now, Whole}
-use Rattle.terms.proofs.FoundWords.{pick_keeps, found_says, filled_word, filled_fits}
+use Rattle.terms.proofs.FoundWords.{if_keeps, found_says, filled_word, filled_fits}
 
 -- ---- what is found fits its word
 
@@ -35,7 +39,7 @@ module _ (h : List ℕ) where
   Sits (At r c) = RefFits 12 r
 
   cell_sits : (r : Ref) (c : Cell) (next : Ref → Found) → RefFits 12 r → CellFits 12 c → ((s : Ref) → RefFits 12 s → Sits (next s)) → Sits (on_cell r c next)
-  unfolding Sits on_cell ends_at CellFits
+  unfolding Sits CellFits
   cell_sits r Unbound next f g k = f
   cell_sits r (Bound s) next f g k = k s g
   cell_sits r (Int v) next f g k = f
@@ -43,7 +47,7 @@ module _ (h : List ℕ) where
   cell_sits r (Argument s) next f g k = tt
 
   word_sits : (r : Ref) (x : Word) (next : Ref → Found) → RefFits 12 r → unpack_heap 12 (get_or h r.address 0) ≡ x → ((s : Ref) → RefFits 12 s → Sits (next s)) → Sits (on_word r x next)
-  unfolding Sits on_word
+  unfolding Sits
   word_sits r Word.Empty next f e k = tt
   word_sits r (Word.Filled c) next f e k = cell_sits r c next f (filled_fits (get_or h r.address 0) c e) k
   word_sits r (Word.Linked l) next f e k = tt
@@ -52,7 +56,7 @@ module _ (h : List ℕ) where
   deref_sits : (u : List ℕ) (k : ℕ) (r : Ref) → RefFits 12 r → Sits (deref_in k h u r)
   unfolding Sits deref_in
   deref_sits u zero r f = tt
-  deref_sits u (suc k) r f = pick_keeps Sits _ _ _ (λ _. word_sits r _ _ f refl (λ s g. deref_sits u k s g)) (λ _. tt)
+  deref_sits u (suc k) r f = if_keeps Sits (live_ref h u r) (on_word r (unpack_heap 12 (get_or h r.address 0)) (λ s. deref_in k h u s)) Dead (λ _. word_sits r _ _ f refl (λ s g. deref_sits u k s g)) (λ _. tt)
 
   found_fits : (u : List ℕ) (r s : Ref) (c : Cell) → RefFits 12 r → deref_of h u r ≡ At s c → RefFits 12 s
   unfolding Sits deref_of
@@ -63,19 +67,18 @@ module _ (h : List ℕ) where
   abbrev Says : Ref → Cell → Type 0
   Says r c = unpack_heap 12 (get_or h r.address 0) ≡ Word.Filled c
 
-  Fair : Taken → Type 0
-  Fair Died = Unit {0}
-  Fair Differ = Unit {0}
-  Fair Same = Unit {0}
-  Fair (Bind r s) = (cell_word 12 Unbound ≡ get_or h r.address 0) × RefFits 12 s
-  Fair (Arguments a b n) = (f : ℕ) × (cell_word 12 (Head f n) ≡ get_or h a 0) × (cell_word 12 (Head f n) ≡ get_or h b 0)
+  Fair : Result Taken Refusal → Type 0
+  Fair (Err e) = Unit {0}
+  Fair (Ok Same) = Unit {0}
+  Fair (Ok (Bind r s)) = (cell_word 12 Unbound ≡ get_or h r.address 0) × RefFits 12 s
+  Fair (Ok (Arguments a b n)) = (f : ℕ) × (cell_word 12 (Head f n) ≡ get_or h a 0) × (cell_word 12 (Head f n) ≡ get_or h b 0)
 
   both_true : (x y : Bool) → (x && y) ≡ true → (x ≡ true) × (y ≡ true)
   both_true true true e = (refl, refl)
   both_true true false e = (refl, e)
   both_true false y e = absurd (true≢false (sym e))
 
-  heads_fair : (r s : Ref) (f n g k : ℕ) → Says r (Head f n) → Says s (Head g k) → (eqb f g && eqb n k) ≡ true → Fair (Arguments r.address s.address n)
+  heads_fair : (r s : Ref) (f n g k : ℕ) → Says r (Head f n) → Says s (Head g k) → (eqb f g && eqb n k) ≡ true → Fair (Ok (Arguments r.address s.address n))
   unfolding Fair
   heads_fair r s f n g k p q t =
       let b = both_true (eqb f g) (eqb n k) t in
@@ -86,21 +89,21 @@ module _ (h : List ℕ) where
   module _ (r s : Ref) (fr : RefFits 12 r) (fs : RefFits 12 s) where
     meet_fair : (v w : Cell) → Says r v → Says s w → Fair (meet_of r v s w)
     unfolding Fair meet_of
-    meet_fair Unbound Unbound p q = pick_keeps Fair (younger r s) (Bind r s) (Bind s r) (λ _. (filled_word _ Unbound p, fs)) (λ _. (filled_word _ Unbound q, fr))
+    meet_fair Unbound Unbound p q = if_keeps Fair (younger r s) (Ok (Bind r s)) (Ok (Bind s r)) (λ _. (filled_word _ Unbound p, fs)) (λ _. (filled_word _ Unbound q, fr))
     meet_fair Unbound (Bound t) p q = tt
     meet_fair Unbound (Int v) p q = (filled_word _ Unbound p, fs)
     meet_fair Unbound (Head g n) p q = (filled_word _ Unbound p, fs)
     meet_fair Unbound (Argument t) p q = tt
     meet_fair (Int v) Unbound p q = (filled_word _ Unbound q, fr)
     meet_fair (Int v) (Bound t) p q = tt
-    meet_fair (Int v) (Int w) p q = pick_keeps Fair (same_int v w) Same Differ (λ _. tt) (λ _. tt)
+    meet_fair (Int v) (Int w) p q = if_keeps Fair (same_int v w) (Ok Same) (Err Refusals.Differ) (λ _. tt) (λ _. tt)
     meet_fair (Int v) (Head g n) p q = tt
     meet_fair (Int v) (Argument t) p q = tt
     meet_fair (Head g n) Unbound p q = (filled_word _ Unbound q, fr)
     meet_fair (Head g n) (Bound t) p q = tt
     meet_fair (Head g n) (Int w) p q = tt
     meet_fair (Head g n) (Head i k) p q =
-        pick_keeps Fair (eqb g i && eqb n k) (Arguments r.address s.address n) Differ (λ t. heads_fair r s g n i k p q t) (λ _. tt)
+        if_keeps Fair (eqb g i && eqb n k) (Ok (Arguments r.address s.address n)) (Err Refusals.Differ) (λ t. heads_fair r s g n i k p q t) (λ _. tt)
     meet_fair (Head g n) (Argument t) p q = tt
     meet_fair (Bound t) w p q = tt
     meet_fair (Argument t) w p q = tt
@@ -111,7 +114,7 @@ module _ (h : List ℕ) where
     both_fair Dead y e f = tt
     both_fair (At p v) Dead e f = tt
     both_fair (At p v) (At q w) e f =
-        pick_keeps Fair (eqb p.address q.address) Same (meet_of p v q w) (λ _. tt)
+        if_keeps Fair (eqb p.address q.address) (Ok Same) (meet_of p v q w) (λ _. tt)
         (λ _. meet_fair p q (found_fits u l p v fl e) (found_fits u r q w fr f) v w (found_says h u l p v e) (found_says h u r q w f))
 
     look_fair : Fair (look_of h u l r)
@@ -185,18 +188,17 @@ module _ (h : List ℕ) (ok : Whole h) (a b f n : ℕ) (ea : cell_word 12 (Head 
 Agree : ℕ → ℕ → Type 0
 Agree n left = (items : List Item) (m : Marked) → Whole m.heap → Firm m.heap items → solve n left items m ≡ solve_now n left (reads m.heap items) m
 
-took_agree : (n left : ℕ) → Agree n left → (rest : List Item) (m : Marked) → Whole m.heap → Firm m.heap rest → (x : Taken) → Fair m.heap x →
+took_agree : (n left : ℕ) → Agree n left → (rest : List Item) (m : Marked) → Whole m.heap → Firm m.heap rest → (x : Result Taken Refusal) → Fair m.heap x →
     took_pair n (solve n left) left rest m x ≡ took_now n (solve_now n left) left (reads m.heap rest) m x
 unfolding Agree Fair took_pair took_now bind_in
-took_agree n left ih rest m ok f Died g = refl
-took_agree n left ih rest m ok f Differ g = refl
-took_agree n left ih rest m ok f Same g = ih rest m ok f
-took_agree n left ih rest m ok f (Bind r s) g =
+took_agree n left ih rest m ok f (Err e) g = refl
+took_agree n left ih rest m ok f (Ok Same) g = ih rest m ok f
+took_agree n left ih rest m ok f (Ok (Bind r s)) g =
     let w : ℕ = cell_word 12 (Bound s) in
     let m' : Marked = marked (set m.heap r.address w) (set m.turned r.address n) in
     ih rest m' (whole_set m.heap r.address w g.0 (bound_no_head s g.1) ok) (firm_set m.heap r.address w g.0 rest f)
     ∙ ap (λ (ps : List Pair). solve_now n left ps m') (reads_set m.heap r.address w g.0 rest f)
-took_agree n left ih rest m ok f (Arguments a b k) g =
+took_agree n left ih rest m ok f (Ok (Arguments a b k)) g =
     ih (arg_items a b 0 k ++ rest) m ok (firm_args m.heap ok a b g.0 k g.1 g.2 rest f 0 k (omega arith))
     ∙ ap (λ (ps : List Pair). solve_now n left ps m) (reads_args m.heap a b 0 k rest)
 

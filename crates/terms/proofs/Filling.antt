@@ -1,39 +1,16 @@
--- A loop that fills the words of a term, one a turn: what is left to fill, and what each turn does.
-use Prim.Native.Nat.{ℕ, ◌+◌, ◌≤◌, ◌<◌}
-use mathlib.Core.List.{List, ◌∷◌}
-use mathlib.Core.Path.{◌≡◌}
-use native.Mathlib.Omega.{arith}
-use native.Mathlib.Nat.{add-zero}
-use native.Mathlib.Numerals.{add-one}
-use lib.ListN.{length, get_or, set, drop, drop_of_length-le}
-use lib.Seq.{drop-cons}
-use Rattle.store.specs.Memory.{Memory, memory, fill_at, fill_all, next_at}
-use Rattle.store.proofs.Fills.{stores}
+-- One turn of the loop that fills the words of a term: what is left of it when i of the words are filled.
+use Rattle.std.proofs.Common.{◌≡◌, ℕ, suc, ◌+◌, ◌<◌, ◌≤◌, List, length, get_or, drop, arith, add-one, drop-cons}
+use lib.ListN.{drop_of_length-le}
+use Rattle.store.specs.Memory.{Memory, fill_at, fill_all}
 
--- before turn i the words from i on are left to fill
-pub record Filling (n a : ℕ) (ws : List ℕ) (i : ℕ) (m₀ m : Memory) : Type 0 where
-  pub within : i ≤ length ws
-  pub same : fill_all n (a + i) (drop i ws) m ≡ fill_all n a ws m₀
+module _ (n a i : ℕ) (ws : List ℕ) (m : Memory) where
+  pub fill_turn : i < length ws → fill_all n (a + i) (drop i ws) m ≡ fill_all n (a + (i + 1)) (drop (i + 1) ws) (fill_at n (a + i) (get_or ws i 0) m)
+  unfolding fill_all
+  fill_turn h =
+      let e : a + i + 1 ≡ a + (i + 1) = omega arith in
+      let s : fill_all n (a + i + 1) (drop (suc i) ws) (fill_at n (a + i) (get_or ws i 0) m) ≡ fill_all n (a + (i + 1)) (drop (i + 1) ws) (fill_at n (a + i) (get_or ws i 0) m) = rw (e, add-one i) in
+      rw (drop-cons ws i 0 h) s
 
-module _ (n a : ℕ) (ws : List ℕ) where
-  pub filling_starts : (m : Memory) → Filling n a ws 0 m m
-  filling_starts m = record { within = omega arith; same = rw (add-zero a) }
-
-  module _ (i : ℕ) (m₀ m : Memory) (f : Filling n a ws i m₀ m) where
-    pub filling_on : (x : Memory) (w : ℕ) → i < length ws → x ≡ fill_at n (a + i) w m → w ≡ get_or ws i 0 → Filling n a ws (i + 1) m₀ x
-    unfolding fill_all
-    filling_on x w h e q =
-        let s : fill_all n (a + i) (get_or ws i 0 ∷ drop (i + 1) ws) m ≡ fill_all n a ws m₀ = rw (add-one i, ← drop-cons ws i 0 h) f.same in
-        let z : a + i + 1 ≡ a + (i + 1) = omega arith in
-        record { within = omega arith; same = rw (← z, e, q) s }
-
-    pub filling_ends : length ws ≤ i → m ≡ fill_all n a ws m₀
-    unfolding fill_all
-    filling_ends h = rw (drop_of_length-le ws h) at f.same
-
--- a link gains a next page, in a memory that a call left
-pub via_next : (h x b u : List ℕ) (m : Memory) (a w w' : ℕ) → x ≡ set h a w → memory h b u ≡ m → w ≡ w' → memory x b u ≡ next_at a w' m
-unfolding next_at
-via_next h x b u m a w w' e p q = rw (← p, e, q)
-
-pub ruleset filling = (stores, filling_starts, filling_on, filling_ends, via_next)
+  pub fill_ends : length ws ≤ i → fill_all n (a + i) (drop i ws) m ≡ m
+  unfolding fill_all
+  fill_ends h = rw (drop_of_length-le ws h)

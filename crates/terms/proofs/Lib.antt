@@ -1,10 +1,7 @@
+pub mod Arguments
 pub mod Filling
 pub mod Following
-pub mod Placing
 pub mod FoundWords
-pub mod Operands
-pub mod Building
-pub mod Arguments
 pub mod Meeting
 pub mod Named
 pub mod Cycle

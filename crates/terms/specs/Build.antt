@@ -1,44 +1,36 @@
 -- Ops 3, 4 and 5 over the lent memory: the words of a term go into a region, and a register refers to the first of them.
-use Rattle.std.specs.Prelude.{Bool, true, false, List, [], ◌∷◌, ℕ, zero, suc, ◌+◌, ◌*◌, ◌%◌, ◌^◌, leb, ℤ, length, set}
-use Rattle.std.proofs.Math.Option.{some}
-use Rattle.laws.specs.declared.Sought.{Sought}
-use Rattle.laws.specs.declared.Sought.TheVariants.{At, Nowhere}
-use Rattle.laws.specs.Pick.{pick}
+use Rattle.std.specs.Prelude.{Bool, ◌&&◌, List, [], ◌∷◌, ℕ, zero, suc, ◌+◌, ◌*◌, ◌%◌, ◌^◌, leb, ℤ, length, set, Option, Some, None, is_some, if◌then◌else◌}
 use Rattle.laws.specs.Loops.{all_of}
 use Rattle.words.specs.declared.Ref.{Ref}
 use Rattle.words.specs.declared.Cell.TheVariants.{Unbound, Int, Head, Argument}
-use Rattle.words.specs.declared.Register.TheVariants.{Empty, Region, Term}
-use Rattle.words.specs.declared.Held.{Held}
+use Rattle.words.specs.declared.Register.TheVariants.{Term}
 use Rattle.words.specs.declared.Answer.{Answer}
 use Rattle.words.specs.Words.{cell_word, link_word, register_word, ref_of}
 use Rattle.words.specs.Answers.{plain}
-use Rattle.store.specs.Pages.{lowest_free, fill, live_page, on_sought}
-use Rattle.store.specs.Rows.{present, register_at, register_set}
+use Rattle.store.specs.Pages.{lowest_free, fill, live_page, on_page}
+use Rattle.store.specs.Rows.{present, register_at, register_set, held_at, on_region}
 use Rattle.store.specs.Memory.{Memory, fill_all, next_at}
 use Rattle.store.specs.Make.{page_started}
-use Rattle.terms.specs.declared.build.Home.{Home}
-use Rattle.terms.specs.declared.build.Home.TheVariants.{Gone, Newest}
-use Rattle.terms.specs.declared.deref.Operand.{Operand}
-use Rattle.terms.specs.declared.deref.Operand.TheVariants.{Missing, Live}
-use Rattle.terms.specs.Deref.{held_at, operand_at}
+use Rattle.terms.specs.declared.build.NewestPage.{NewestPage}
+use Rattle.terms.specs.Deref.{operand_at}
 
 -- ---- where a term goes. n is the present copy, p the newest page of the region of stamp s
 
 -- page q joins the list after page p
 unfoldable pub page_joined : ℕ → ℕ → ℕ → ℕ → Memory → Memory
-page_joined n p s q m = next_at (p * 16) (link_word 12 s (some (q % 2 ^ 16))) (page_started n q s m)
+page_joined n p s q m = next_at (p * 16) (link_word 12 s (Some (q % 2 ^ 16))) (page_started n q s m)
 
 -- the address of a term's first word: after the last filled word of page p if the term fits in the 15 words there, otherwise on the lowest free page
-unfoldable pub place_of : ℕ → ℕ → ℕ → List ℕ → List ℕ → Sought
+unfoldable pub place_of : ℕ → ℕ → ℕ → List ℕ → List ℕ → Option ℕ
 place_of first pages p ws h =
-    pick (leb (fill h p + length ws) 15) (At (p * 16 + fill h p + 1))
-    (on_sought (lowest_free first pages h) (λ q. At (q * 16 + 1)) Nowhere)
+    if leb (fill h p + length ws) 15 then Some (p * 16 + fill h p + 1)
+    else on_page (lowest_free first pages h) (λ q. Some (q * 16 + 1)) None
 
 -- the memory with the term there; without a page nothing changes
 unfoldable pub placed : ℕ → ℕ → ℕ → ℕ → ℕ → List ℕ → Memory → Memory
 placed first pages n p s ws m =
-    pick (leb (fill m.heap p + length ws) 15) (fill_all n (p * 16 + fill m.heap p + 1) ws m)
-    (on_sought (lowest_free first pages m.heap) (λ q. fill_all n (q * 16 + 1) ws (page_joined n p s q m)) m)
+    if leb (fill m.heap p + length ws) 15 then fill_all n (p * 16 + fill m.heap p + 1) ws m
+    else on_page (lowest_free first pages m.heap) (λ q. fill_all n (q * 16 + 1) ws (page_joined n p s q m)) m
 
 -- ---- the term is placed, and register d of copy n refers to its first word
 
@@ -47,32 +39,25 @@ abbrev pub cell_of : ℕ → ℕ → Ref
 cell_of s a = record { stamp = s; address = a % 2 ^ 16 }
 
 unfoldable pub put_answer : ℕ → ℕ → ℕ → List ℕ → List ℕ → Answer
-put_answer first pages p ws h = on_sought (place_of first pages p ws h) (λ a. plain 0) (plain 5)
+put_answer first pages p ws h = on_page (place_of first pages p ws h) (λ a. plain 0) (plain 5)
 
 unfoldable pub put_tables : ℕ → ℕ → ℕ → ℕ → ℕ → ℕ → List ℕ → List ℕ → List ℕ → List ℕ
-put_tables first pages n d p s ws t h = on_sought (place_of first pages p ws h) (λ a. register_set t n d (register_word 12 (Term (cell_of s a)))) t
+put_tables first pages n d p s ws t h = on_page (place_of first pages p ws h) (λ a. register_set t n d (register_word 12 (Term (cell_of s a)))) t
 
--- ---- the region in register a, if it is in the present copy
+-- ---- the region in register a, if it is in the present copy: its newest page
 
--- by the stamp of the region that a register holds
-unfoldable pub on_region : {A : Type 0} → Held → (ℕ → A) → A → A
-on_region (Held.Holds Empty) f z = z
-on_region (Held.Holds (Region s)) f z = f s
-on_region (Held.Holds (Term r)) f z = z
-on_region Held.Broken f z = z
+unfoldable pub home_at : ℕ → ℕ → List ℕ → List ℕ → List ℕ → ℕ → Option NewestPage
+home_at first pages h t u a =
+    on_region (held_at t a) (λ s. on_page (live_page first pages h u s) (λ p. Some (record { page = p; stamp = s })) None) None
 
--- its newest page
-unfoldable pub home_at : ℕ → ℕ → List ℕ → List ℕ → List ℕ → ℕ → Home
-home_at first pages h t u a = on_region (held_at t a) (λ s. on_sought (live_page first pages h u s) (λ p. Newest p s) Gone) Gone
-
-unfoldable pub on_home : {A : Type 0} → Home → (ℕ → ℕ → A) → A → A
-on_home Gone f z = z
-on_home (Newest p s) f z = f p s
+abbrev pub on_home : {A : Type 0} → Option NewestPage → (ℕ → ℕ → A) → A → A
+on_home (Some home) f z = f home.page home.stamp
+on_home None f z = z
 
 -- ---- a term of these words goes into the region in register a: 3 without the region, then 4 unless the term is good, then 5 for lack of a page
 
-unfoldable pub on_build : {A : Type 0} → Home → Bool → (ℕ → A) → (ℕ → ℕ → A) → A
-on_build home good refused put = on_home home (λ p s. pick good (put p s) (refused 4)) (refused 3)
+abbrev pub on_build : {A : Type 0} → Option NewestPage → Bool → (ℕ → A) → (ℕ → ℕ → A) → A
+on_build home good refused put = on_home home (λ p s. if good then put p s else refused 4) (refused 3)
 
 unfoldable pub build_answer : ℕ → ℕ → ℕ → Bool → List ℕ → List ℕ → List ℕ → List ℕ → Answer
 build_answer first pages a good ws h t u = on_build (home_at first pages h t u a) good (λ s. plain s) (λ p s. put_answer first pages p ws h)
@@ -95,13 +80,9 @@ integer_words v = cell_word 12 (Int v) ∷ []
 
 -- ---- op 5: a structure of n arguments, in the registers from b on
 
-unfoldable pub is_live : Operand → Bool
-is_live Missing = false
-is_live (Live r) = true
-
 -- each argument is a term whose region is in the present copy
 unfoldable pub arguments_live : ℕ → ℕ → List ℕ → List ℕ → List ℕ → Bool
-arguments_live n b h t u = all_of (λ i. is_live (operand_at h t u i)) n b
+arguments_live n b h t u = all_of (λ i. is_some (operand_at h t u i)) n b
 
 -- the reference in register i as it stands, not followed, as an argument
 unfoldable pub argument_word : List ℕ → ℕ → ℕ
@@ -119,9 +100,13 @@ unfoldable pub arguments_put : List ℕ → ℕ → ℕ → ℕ → List ℕ →
 arguments_put t zero b k x = x
 arguments_put t (suc n) b k x = arguments_put t n (suc b) (suc k) (set x k (argument_word t b))
 
--- 2 at an arity over 14, and if a register is past 31
-unfoldable pub on_structure : {A : Type 0} → ℕ → ℕ → A → A → A
-on_structure n b refused built = pick (leb n 14) (pick (leb (b + n) 32) built refused) refused
+-- an arity is at most 14, and no register is past 31
+abbrev pub is_structure : ℕ → ℕ → Bool
+is_structure n b = leb n 14 && leb (b + n) 32
+
+-- 2 otherwise
+abbrev pub on_structure : {A : Type 0} → ℕ → ℕ → A → A → A
+on_structure n b refused built = if is_structure n b then built else refused
 
 unfoldable pub structure_answer : ℕ → ℕ → ℕ → ℕ → ℕ → ℕ → List ℕ → List ℕ → List ℕ → Answer
 structure_answer first pages a b f n h t u =

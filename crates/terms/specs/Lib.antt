@@ -1,5 +1,5 @@
-pub mod Build
 pub mod Deref
+pub mod Build
 pub mod Unify
 pub mod Took
 pub mod Eager

@@ -1,14 +1,16 @@
 -- What taking pairs is, as the functions that call each other tell it: the machine comes through these pairs, whatever stands behind them, and the trail leads back.
-use Rattle.std.specs.Prelude.{◌≡◌, List, ◌++◌, ℕ, zero, suc, ◌+◌, ◌*◌, ◌/◌, ◌%◌, ◌^◌, ◌≤◌, ◌<◌, eqb, length, get_or, set}
-use Rattle.laws.specs.Pick.{pick}
+use Rattle.std.specs.Prelude.{◌≡◌, List, ◌++◌, ℕ, zero, suc, ◌+◌, ◌*◌, ◌/◌, ◌%◌, ◌^◌, ◌≤◌, ◌<◌, eqb, length, get_or, set, Result, if◌then◌else◌}
 use Rattle.words.specs.declared.Ref.{Ref}
 use Rattle.words.specs.declared.Cell.TheVariants.{Unbound, Bound}
+use Rattle.words.specs.declared.Refusal.{Refusal}
 use Rattle.words.specs.Words.{cell_word}
-use Rattle.terms.specs.Unify.{Marked, marked, Item, Solved, solved, solve}
+use Rattle.store.specs.Memory.{Kept}
+use Rattle.terms.specs.declared.unify.Unifier.{Unifier}
+use Rattle.terms.specs.Unify.{Marked, marked, Item, Solved, solved, solve, status_told}
 
 -- the machine goes on with the rest where the status is 0, and ends where it is not
 unfoldable pub go_on : ℕ → ℕ → ℕ → List Item → Marked → Solved
-go_on n status left rest m = pick (eqb status 0) (solve n left rest m) (solved status left m)
+go_on n status left rest m = if eqb status 0 then solve n left rest m else solved status left m
 
 -- ---- the trail: an entry for each binding, the variable's address and, above it, the mark that it had
 
@@ -48,3 +50,16 @@ pub record Took (n : ℕ) (items : List Item) (k left : ℕ) (h u t : List ℕ) 
   pub long : length t' ≡ length t
   pub heap : undo_of word_back k' t' h' ≡ undo_of word_back k t h
   pub turned : undo_of mark_back k' t' u' ≡ undo_of mark_back k t u
+
+-- the same said of the code's unifier, before and after
+abbrev pub TookBy : List Item → Unifier → Result (Unit {0}) Refusal → Unifier → Type 0
+TookBy items x outcome y =
+    Took x.n items x.bound x.left x.heap.now.words.now x.heap.now.turned.now x.trail.now (status_told outcome) y.bound y.left y.heap.now.words.now y.heap.now.turned.now y.trail.now
+
+-- the loans, the copy's number and the born marks stay
+pub record Stays (x y : Unifier) : Type 0 where
+  pub heap : y.heap.ghost_name ≡ x.heap.ghost_name
+  pub loans : Kept x.heap.now y.heap.now
+  pub trail : y.trail.ghost_name ≡ x.trail.ghost_name
+  pub n : y.n ≡ x.n
+  pub born : y.heap.now.born.now ≡ x.heap.now.born.now

@@ -1,53 +1,53 @@
--- Document 01, "Steps", op 6, over the lent words: unification as a machine that works off an agenda of pairs.
+-- Op 6, over the lent words: unification as a machine that works off an agenda of pairs.
 -- It goes clause by clause as `solve` does (crates/machine/specs/Unify.antt); a cell is bound by writing its word and its turned mark.
-use Rattle.std.specs.Prelude.{◌&&◌, List, [], ◌∷◌, ◌++◌, ℕ, zero, suc, ◌+◌, ◌-◌, ◌%◌, ◌^◌, eqb, get_or, set}
-use Rattle.laws.specs.Pick.{pick}
+use Rattle.std.specs.Prelude.{◌&&◌, List, [], ◌∷◌, ◌++◌, ℕ, zero, suc, ◌+◌, ◌-◌, ◌%◌, ◌^◌, eqb, get_or, set, Option, Some, None, Result, Ok, Err, if◌then◌else◌}
 use Rattle.words.specs.declared.Ref.{Ref}
 use Rattle.words.specs.declared.Cell.{Cell}
 use Rattle.words.specs.declared.Cell.TheVariants.{Unbound, Bound, Int, Head, Argument}
 use Rattle.words.specs.declared.Answer.{Answer}
+use Rattle.words.specs.declared.Refusal.{Refusal}
+use Rattle.words.specs.declared.Refusal.TheVariants as Refusals
 use Rattle.words.specs.Integers.{same_int}
 use Rattle.words.specs.Words.{cell_word, ref_of}
-use Rattle.words.specs.Answers.{plain}
+use Rattle.words.specs.Answers.{plain, status_of}
 use Rattle.machine.specs.declared.Found.{Found}
 use Rattle.machine.specs.declared.Found.TheVariants.{Dead, At}
 use Rattle.machine.specs.Unify.{younger}
 use Rattle.store.specs.Rows.{present}
-use Rattle.terms.specs.declared.deref.Operand.{Operand}
-use Rattle.terms.specs.declared.unify.Operands.{Operands}
+use Rattle.terms.specs.declared.unify.Attempt.{Attempt}
 use Rattle.terms.specs.declared.unify.Taken.{Taken}
-use Rattle.terms.specs.declared.unify.Taken.TheVariants.{Died, Differ, Same, Bind, Arguments}
+use Rattle.terms.specs.declared.unify.Taken.TheVariants.{Same, Bind, Arguments}
 use Rattle.terms.specs.Deref.{deref_of, operand_at}
 
 -- ---- what a pair comes to
 
 -- two cells that are not the same
-unfoldable pub meet_of : Ref → Cell → Ref → Cell → Taken
-meet_of r Unbound s Unbound = pick (younger r s) (Bind r s) (Bind s r)
-meet_of r Unbound s (Bound t) = Differ
-meet_of r Unbound s (Int v) = Bind r s
-meet_of r Unbound s (Head f n) = Bind r s
-meet_of r Unbound s (Argument t) = Differ
-meet_of r (Int v) s Unbound = Bind s r
-meet_of r (Int v) s (Bound t) = Differ
-meet_of r (Int v) s (Int w) = pick (same_int v w) Same Differ
-meet_of r (Int v) s (Head g k) = Differ
-meet_of r (Int v) s (Argument t) = Differ
-meet_of r (Head f n) s Unbound = Bind s r
-meet_of r (Head f n) s (Bound t) = Differ
-meet_of r (Head f n) s (Int w) = Differ
-meet_of r (Head f n) s (Head g k) = pick (eqb f g && eqb n k) (Arguments r.address s.address n) Differ
-meet_of r (Head f n) s (Argument t) = Differ
-meet_of r (Bound q) s w = Differ
-meet_of r (Argument q) s w = Differ
+unfoldable pub meet_of : Ref → Cell → Ref → Cell → Result Taken Refusal
+meet_of r Unbound s Unbound = if younger r s then Ok (Bind r s) else Ok (Bind s r)
+meet_of r Unbound s (Bound t) = Err Refusals.Differ
+meet_of r Unbound s (Int v) = Ok (Bind r s)
+meet_of r Unbound s (Head f n) = Ok (Bind r s)
+meet_of r Unbound s (Argument t) = Err Refusals.Differ
+meet_of r (Int v) s Unbound = Ok (Bind s r)
+meet_of r (Int v) s (Bound t) = Err Refusals.Differ
+meet_of r (Int v) s (Int w) = if same_int v w then Ok Same else Err Refusals.Differ
+meet_of r (Int v) s (Head g k) = Err Refusals.Differ
+meet_of r (Int v) s (Argument t) = Err Refusals.Differ
+meet_of r (Head f n) s Unbound = Ok (Bind s r)
+meet_of r (Head f n) s (Bound t) = Err Refusals.Differ
+meet_of r (Head f n) s (Int w) = Err Refusals.Differ
+meet_of r (Head f n) s (Head g k) = if eqb f g && eqb n k then Ok (Arguments r.address s.address n) else Err Refusals.Differ
+meet_of r (Head f n) s (Argument t) = Err Refusals.Differ
+meet_of r (Bound q) s w = Err Refusals.Differ
+meet_of r (Argument q) s w = Err Refusals.Differ
 
 -- both sides followed to their cells: a dead reference stops with 4, the same cell is equal
-unfoldable pub both_found : Found → Found → Taken
-both_found Dead y = Died
-both_found (At r v) Dead = Died
-both_found (At r v) (At s w) = pick (eqb r.address s.address) Same (meet_of r v s w)
+unfoldable pub both_found : Found → Found → Result Taken Refusal
+both_found Dead y = Err Refusals.Dead
+both_found (At r v) Dead = Err Refusals.Dead
+both_found (At r v) (At s w) = if eqb r.address s.address then Ok Same else meet_of r v s w
 
-unfoldable pub look_of : List ℕ → List ℕ → Ref → Ref → Taken
+unfoldable pub look_of : List ℕ → List ℕ → Ref → Ref → Result Taken Refusal
 look_of h u l r = both_found (deref_of h u l) (deref_of h u r)
 
 -- ---- the machine
@@ -93,12 +93,11 @@ abbrev pub solved : ℕ → ℕ → Marked → Solved
 solved status left m = record { status = status; left = left; memory = m }
 
 -- one pair was taken: `go` takes the rest
-unfoldable pub took_pair : ℕ → (List Item → Marked → Solved) → ℕ → List Item → Marked → Taken → Solved
-took_pair n go left rest m Died = solved 4 left m
-took_pair n go left rest m Differ = solved 1 left m
-took_pair n go left rest m Same = go rest m
-took_pair n go left rest m (Bind r s) = go rest (bind_in n r s m)
-took_pair n go left rest m (Arguments a b k) = go (arg_items a b 0 k ++ rest) m
+unfoldable pub took_pair : ℕ → (List Item → Marked → Solved) → ℕ → List Item → Marked → Result Taken Refusal → Solved
+took_pair n go left rest m (Err e) = solved (status_of e) left m
+took_pair n go left rest m (Ok Same) = go rest m
+took_pair n go left rest m (Ok (Bind r s)) = go rest (bind_in n r s m)
+took_pair n go left rest m (Ok (Arguments a b k)) = go (arg_items a b 0 k ++ rest) m
 
 -- the pair at the agenda's head is taken next, and its arguments' pairs come before the rest; the second number is how many pairs may still be taken
 unfoldable pub solve : ℕ → ℕ → List Item → Marked → Solved
@@ -109,6 +108,15 @@ solve n (suc left) (x ∷ rest) m =
     took_pair n (λ agenda m'. solve n left agenda m') left rest m (look_of m.heap m.turned (left_of m.heap x) (right_of m.heap x))
 
 -- ---- op 6
+
+-- the status of an outcome: 0 if nothing was refused
+abbrev pub status_told : Result (Unit {0}) Refusal → ℕ
+status_told (Ok x) = 0
+status_told (Err e) = status_of e
+
+-- what the code's `Attempt` answers
+abbrev pub answer_of_attempt : Attempt → Answer
+answer_of_attempt t = record { status = status_told t.outcome; kind = 0; pairs = t.pairs; payload = 0 }
 
 pub record Unified : Type 0 where
   pub answer : Answer
@@ -122,23 +130,23 @@ unfoldable pub settled : ℕ → Marked → Solved → Unified
 settled budget m e =
     record {
       answer = record { status = e.status; kind = 0; pairs = budget - e.left; payload = 0 };
-      memory = pick (eqb e.status 0) e.memory m;
+      memory = if eqb e.status 0 then e.memory else m;
     }
 
 unfoldable pub unify_terms : ℕ → ℕ → Ref → Ref → Marked → Unified
 unify_terms n budget l r m = settled budget m (solve n budget (refs l r ∷ []) m)
 
-unfoldable pub on_operand : {A : Type 0} → Operand → (Ref → A) → A → A
-on_operand Operand.Missing f z = z
-on_operand (Operand.Live r) f z = f r
+abbrev pub on_operand : {A : Type 0} → Option Ref → (Ref → A) → A → A
+on_operand None f z = z
+on_operand (Some r) f z = f r
 
-unfoldable pub on_operands : {A : Type 0} → Operands → (Ref → Ref → A) → A → A
-on_operands Operands.Missing f z = z
-on_operands (Operands.Both l r) f z = f l r
+abbrev pub on_operands : {A : Type 0} → Option (Ref × Ref) → (Ref → Ref → A) → A → A
+on_operands None f z = z
+on_operands (Some p) f z = f p.0 p.1
 
 -- both registers must hold a term of a live region
-unfoldable pub operands_at : List ℕ → List ℕ → List ℕ → ℕ → ℕ → Operands
-operands_at h t u a b = on_operand (operand_at h t u a) (λ l. on_operand (operand_at h t u b) (λ r. Operands.Both l r) Operands.Missing) Operands.Missing
+unfoldable pub operands_at : List ℕ → List ℕ → List ℕ → ℕ → ℕ → Option (Ref × Ref)
+operands_at h t u a b = on_operand (operand_at h t u a) (λ l. on_operand (operand_at h t u b) (λ r. Some (l, r)) None) None
 
 -- else the status is 4, and no pair is taken. A budget has 12 bits
 unfoldable pub unify_of : List ℕ → List ℕ → List ℕ → ℕ → ℕ → ℕ → Unified

@@ -1,355 +1,237 @@
 // Ops 3, 4 and 5: the words of a term go into a region, and register d refers to the first of them.
 
-ghost use Rattle.std.specs.Prelude.{true, ◌≡◌, ◌+◌, ◌-◌, ◌*◌, set, replicate};
-ghost use Rattle.words.specs.declared.Cell.TheVariants.{Head};
-ghost use Rattle.words.specs.declared.Register.TheVariants.{Term};
-ghost use Rattle.words.specs.Words.{cell_word, register_word};
-ghost use Rattle.store.specs.Memory.{memory, fill_all};
-ghost use Rattle.store.specs.Make.{unturned};
-ghost use Rattle.store.specs.Rows.{register_set};
-ghost use Rattle.terms.specs.Deref.{operand_at};
-ghost use Rattle.terms.specs.Build.{page_joined, place_of, placed, cell_of, put_answer, put_tables, home_at, build_answer, build_tables, build_memory, variable_words, integer_words, is_live, arguments_live, argument_word, arguments_put, structure_answer, structure_tables, structure_memory};
+ghost use Rattle.std.specs.Prelude.{true, ◌≡◌, ◌<◌, ◌≤◌, ◌+◌, ◌^◌, length, take, is_some, IfSome};
+ghost use Rattle.words.specs.Answers.{told_done};
+ghost use Rattle.store.specs.Memory.{memory_in, KeptFilling, fill_all};
+ghost use Rattle.store.specs.Rows.{present};
+ghost use Rattle.terms.specs.Build.{page_joined, place_of, placed, put_answer, put_tables, home_at, build_answer, build_tables, build_memory, variable_words, integer_words, arguments_live, argument_word, arguments_put, structure_words, is_structure, structure_answer, structure_tables, structure_memory};
 
-use crate::deref::{Operand, held, live_term};
-use laws::Sought;
-use store::{cells, make, pages, registers};
-use words::heap::{pack_cell, pack_link, reference};
-use words::registers::pack_register;
-use words::{Answer, Cell, Held, Link, Ref, Register};
+use crate::deref::live_term;
+use store::memory::put;
+use store::registers::{copy_number, held, register, set_register};
+use store::{Filling, View};
+use words::{Cell, Link, Ref, Refusal, Register};
 
-// Where a term of a region goes: the region's newest page. The region may be gone from the present copy.
-#[derive(Clone, Copy)]
-pub enum Home {
-    Gone,
-    Newest { page: u32, stamp: u32 },
+// Where a term of a region goes: the region's newest page.
+#[derive(Clone, Copy, Debug, PartialEq, Eq)]
+pub struct NewestPage {
+    pub page: u32,
+    pub stamp: u32,
 }
 
-// The words go to page p, one after another from the word after the last filled one on.
-fn fill_all(heap: &mut [u64], born: &mut [u8], n: u8, p: u32, filled: u8, term: &[u64])
-    ensures { unturned heap.new born.new ≡ fill_all n (p * 16 + filled + 1) term.now (unturned heap.old born.old) }
+// The words are filled one after another, from address `start` on.
+#[tactic(auto, using(crate::proofs::Filling::fill_turn, crate::proofs::Filling::fill_ends))]
+fn fill_all(heap: &mut Filling<'_>, n: u8, start: usize, term: &[u64])
+    requires { start + length term.now < 2 ^ 64 }
+    ensures memory { memory_in heap.new ≡ fill_all n start term.now (memory_in heap.old) }
+    ensures kept { KeptFilling heap.old heap.new }
 {
-    let start = p as usize * 16 + filled as usize + 1;
-    let mut i = 0;
-    while i < term.len() {
-        make::fill_at(heap, born, n, start + i, term[i]);
-        i += 1;
+    for (i, w) in term.iter().enumerate() {
+        heap.fill_at(n, start + i, *w);
     }
 }
 
-// Page q joins the list of the region of this stamp, after page p.
-fn join_page(heap: &mut [u64], born: &mut [u8], n: u8, p: u32, stamp: u32, q: u32)
-    ensures { unturned heap.new born.new ≡ page_joined n p stamp q (unturned heap.old born.old) }
+// Page q joins the list of the region, after its newest page.
+#[tactic(auto, unfolding(crate::specs::Build::page_joined, words::specs::Words::heap_word))]
+fn join_page(heap: &mut Filling<'_>, n: u8, home: NewestPage, q: u32)
+    ensures memory { memory_in heap.new ≡ page_joined n home.page home.stamp q (memory_in heap.old) }
+    ensures kept { KeptFilling heap.old heap.new }
 {
-    make::start_page(heap, born, n, q, stamp);
-    let w = pack_link(Link::Joined {
-        stamp,
-        next: (q % 65536) as u16,
-    });
-    cells::put(heap, p as usize * 16, w);
-}
-
-// A term goes after the last filled word of the region's newest page, p, if it fits in the 15 words there; otherwise the lowest free page joins the list and the term starts it.
-// The answer is the address of the term's first word.
-pub fn place(
-    heap: &mut [u64],
-    born: &mut [u8],
-    first: u16,
-    pages: u16,
-    n: u8,
-    p: u32,
-    stamp: u32,
-    term: &[u64],
-) -> Sought
-    ensures answer { result ≡ place_of first pages p term.now heap.old }
-    ensures memory { unturned heap.new born.new ≡ placed first pages n p stamp term.now (unturned heap.old born.old) }
-{
-    let filled = pages::fill(heap, p as usize);
-    let whole = filled + term.len();
-    if whole <= 15 {
-        fill_all(heap, born, n, p, filled as u8, term);
-        return Sought::At(p as usize * 16 + filled + 1);
-    }
-    let Sought::At(q) = pages::lowest_free(heap, first, pages) else {
-        return Sought::Nowhere;
+    heap.start_page(n, q, home.stamp);
+    let link = Link {
+        stamp: home.stamp,
+        next: Some((q % 65536) as u16),
     };
-    join_page(heap, born, n, p, stamp, q as u32);
-    fill_all(heap, born, n, q as u32, 0, term);
-    Sought::At(q * 16 + 1)
+    heap.put_link(home.page, u64::from(link));
 }
 
-// Register d of copy n refers to the cell at this address.
-fn refer(tables: &mut [u64], n: u8, d: u8, stamp: u32, a: usize)
-    ensures { tables.new ≡ register_set tables.old n d (register_word 12 (Term (cell_of stamp a))) }
+// A term goes after the last filled word of the region's newest page if it fits in the 15 words there; otherwise the lowest free page joins the list and the
+// term starts it. The answer is the address of the term's first word.
+#[tactic(auto, unfolding(crate::specs::Build::place_of, crate::specs::Build::placed))]
+pub fn place(heap: &mut Filling<'_>, n: u8, home: NewestPage, term: &[u64]) -> Option<usize>
+    ensures answer { result ≡ place_of heap.old.pages.first heap.old.pages.count home.page term.now heap.old.words.now }
+    ensures memory { memory_in heap.new ≡ placed heap.old.pages.first heap.old.pages.count n home.page home.stamp term.now (memory_in heap.old) }
+    ensures kept { KeptFilling heap.old heap.new }
 {
-    let address = (a % 65536) as u16;
-    registers::set_register(
-        tables,
-        n,
-        d,
-        pack_register(Register::Term(Ref { stamp, address })),
-    );
+    let filled = heap.view().fill(home.page as usize);
+    if filled + term.len() <= 15 {
+        let start = home.page as usize * 16 + filled + 1;
+        fill_all(heap, n, start, term);
+        return Some(start);
+    }
+    let q = heap.view().lowest_free()?;
+    join_page(heap, n, home, q as u32);
+    fill_all(heap, n, q * 16 + 1, term);
+    Some(q * 16 + 1)
 }
 
-// A term is placed, and register d refers to its first word.
+// A term is placed, and register d of the present copy refers to its first word.
+#[tactic(auto, unfolding(crate::specs::Build::put_answer, crate::specs::Build::put_tables))]
 fn put_term(
-    heap: &mut [u64],
+    heap: &mut Filling<'_>,
     tables: &mut [u64],
-    born: &mut [u8],
-    first: u16,
-    pages: u16,
-    n: u8,
     d: u8,
-    p: u32,
-    stamp: u32,
+    home: NewestPage,
     term: &[u64],
-) -> Answer
-    ensures answer { result ≡ put_answer first pages p term.now heap.old }
-    ensures tables { tables.new ≡ put_tables first pages n d p stamp term.now tables.old heap.old }
-    ensures memory { unturned heap.new born.new ≡ placed first pages n p stamp term.now (unturned heap.old born.old) }
+) -> Result<(), Refusal>
+    ensures answer { told_done result ≡ put_answer heap.old.pages.first heap.old.pages.count home.page term.now heap.old.words.now }
+    ensures tables { tables.new ≡ put_tables heap.old.pages.first heap.old.pages.count (present tables.old) d home.page home.stamp term.now tables.old heap.old.words.now }
+    ensures memory { memory_in heap.new ≡ placed heap.old.pages.first heap.old.pages.count (present tables.old) home.page home.stamp term.now (memory_in heap.old) }
+    ensures kept { KeptFilling heap.old heap.new }
 {
-    let Sought::At(a) = place(heap, born, first, pages, n, p, stamp, term) else {
-        return Answer {
-            status: 5,
-            kind: 0,
-            pairs: 0,
-            payload: 0,
-        };
+    let n = copy_number(tables);
+    let a = place(heap, n, home, term).ok_or(Refusal::NoPage)?;
+    let r = Ref {
+        stamp: home.stamp,
+        address: (a % 65536) as u16,
     };
-    refer(tables, n, d, stamp, a);
-    Answer {
-        status: 0,
-        kind: 0,
-        pairs: 0,
-        payload: 0,
-    }
+    set_register(tables, n, d, u64::from(Register::Term(r)));
+    Ok(())
 }
 
 // The region in register a, if it is in the present copy.
-fn home_of(heap: &[u64], tables: &[u64], turned: &[u8], first: u16, pages: u16, a: u8) -> Home
-    ensures { result ≡ home_at first pages heap.now tables.now turned.now a }
+#[tactic(auto, unfolding(crate::specs::Build::home_at))]
+fn home_of(heap: &Filling<'_>, tables: &[u64], a: u8) -> Option<NewestPage>
+    ensures { result ≡ home_at heap.now.pages.first heap.now.pages.count heap.now.words.now tables.now heap.now.turned.now a }
 {
-    let x = held(tables, a);
-    let Held::Holds(y) = x else {
-        return Home::Gone;
+    let Some(Register::Region(stamp)) = held(tables, a) else {
+        return None;
     };
-    let Register::Region(stamp) = y else {
-        return Home::Gone;
-    };
-    let Sought::At(p) = pages::live_page(heap, turned, first, pages, stamp) else {
-        return Home::Gone;
-    };
-    Home::Newest {
+    let p = heap.view().live_page(stamp)?;
+    Some(NewestPage {
         page: p as u32,
         stamp,
-    }
+    })
 }
 
-// A term goes into the region in register a. Whether it is good is known before, and is told after the region was looked for.
+// A term that is good goes into the region in register a.
+#[tactic(auto, unfolding(crate::specs::Build::build_answer, crate::specs::Build::build_tables, crate::specs::Build::build_memory))]
 fn build(
-    heap: &mut [u64],
+    heap: &mut Filling<'_>,
     tables: &mut [u64],
-    born: &mut [u8],
-    turned: &[u8],
-    first: u16,
-    pages: u16,
     d: u8,
     a: u8,
-    good: bool,
     term: &[u64],
-) -> Answer
-    ensures answer { result ≡ build_answer first pages a good term.now heap.old tables.old turned.now }
-    ensures tables { tables.new ≡ build_tables first pages d a good term.now heap.old tables.old turned.now }
-    ensures memory { memory heap.new born.new turned.now ≡ build_memory first pages a good term.now tables.old (memory heap.old born.old turned.now) }
+) -> Result<(), Refusal>
+    ensures answer { told_done result ≡ build_answer heap.old.pages.first heap.old.pages.count a true term.now heap.old.words.now tables.old heap.old.turned.now }
+    ensures tables { tables.new ≡ build_tables heap.old.pages.first heap.old.pages.count d a true term.now heap.old.words.now tables.old heap.old.turned.now }
+    ensures memory { memory_in heap.new ≡ build_memory heap.old.pages.first heap.old.pages.count a true term.now tables.old (memory_in heap.old) }
+    ensures kept { KeptFilling heap.old heap.new }
 {
-    let Home::Newest { page, stamp } = home_of(heap, tables, turned, first, pages, a) else {
-        return Answer {
-            status: 3,
-            kind: 0,
-            pairs: 0,
-            payload: 0,
-        };
-    };
-    if good {
-        let n = registers::copy_number(tables);
-        put_term(heap, tables, born, first, pages, n, d, page, stamp, term)
-    } else {
-        Answer {
-            status: 4,
-            kind: 0,
-            pairs: 0,
-            payload: 0,
-        }
-    }
+    let home = home_of(heap, tables, a).ok_or(Refusal::NoRegion)?;
+    put_term(heap, tables, d, home, term)
 }
 
 // Op 3.
-pub fn make_var(
-    heap: &mut [u64],
-    tables: &mut [u64],
-    born: &mut [u8],
-    turned: &[u8],
-    first: u16,
-    pages: u16,
-    d: u8,
-    a: u8,
-) -> Answer
-    ensures answer { result ≡ build_answer first pages a true variable_words heap.old tables.old turned.now }
-    ensures tables { tables.new ≡ build_tables first pages d a true variable_words heap.old tables.old turned.now }
-    ensures memory { memory heap.new born.new turned.now ≡ build_memory first pages a true variable_words tables.old (memory heap.old born.old turned.now) }
+pub fn make_var(heap: &mut Filling<'_>, tables: &mut [u64], d: u8, a: u8) -> Result<(), Refusal>
+    ensures answer { told_done result ≡ build_answer heap.old.pages.first heap.old.pages.count a true variable_words heap.old.words.now tables.old heap.old.turned.now }
+    ensures tables { tables.new ≡ build_tables heap.old.pages.first heap.old.pages.count d a true variable_words heap.old.words.now tables.old heap.old.turned.now }
+    ensures memory { memory_in heap.new ≡ build_memory heap.old.pages.first heap.old.pages.count a true variable_words tables.old (memory_in heap.old) }
+    ensures kept { KeptFilling heap.old heap.new }
 {
-    let term = [pack_cell(Cell::Unbound)];
-    build(heap, tables, born, turned, first, pages, d, a, true, &term)
+    build(heap, tables, d, a, &[u64::from(Cell::Unbound)])
 }
 
 // Op 4.
 pub fn integer(
-    heap: &mut [u64],
+    heap: &mut Filling<'_>,
     tables: &mut [u64],
-    born: &mut [u8],
-    turned: &[u8],
-    first: u16,
-    pages: u16,
     d: u8,
     a: u8,
     value: i32,
-) -> Answer
-    ensures answer { result ≡ build_answer first pages a true (integer_words value) heap.old tables.old turned.now }
-    ensures tables { tables.new ≡ build_tables first pages d a true (integer_words value) heap.old tables.old turned.now }
-    ensures memory { memory heap.new born.new turned.now ≡ build_memory first pages a true (integer_words value) tables.old (memory heap.old born.old turned.now) }
+) -> Result<(), Refusal>
+    ensures answer { told_done result ≡ build_answer heap.old.pages.first heap.old.pages.count a true (integer_words value) heap.old.words.now tables.old heap.old.turned.now }
+    ensures tables { tables.new ≡ build_tables heap.old.pages.first heap.old.pages.count d a true (integer_words value) heap.old.words.now tables.old heap.old.turned.now }
+    ensures memory { memory_in heap.new ≡ build_memory heap.old.pages.first heap.old.pages.count a true (integer_words value) tables.old (memory_in heap.old) }
+    ensures kept { KeptFilling heap.old heap.new }
 {
-    let term = [pack_cell(Cell::Int(value))];
-    build(heap, tables, born, turned, first, pages, d, a, true, &term)
-}
-
-fn is_live(heap: &[u64], tables: &[u64], turned: &[u8], i: u8) -> bool
-    ensures { result ≡ is_live (operand_at heap.now tables.now turned.now i) }
-{
-    let Operand::Live(_) = live_term(heap, tables, turned, i) else {
-        return false;
-    };
-    true
-}
-
-// Does each of the registers from b up to the end hold a term of a live region?
-fn all_live(heap: &[u64], tables: &[u64], turned: &[u8], b: u8, end: u8) -> bool
-    ensures { result ≡ arguments_live (end - b) b heap.now tables.now turned.now }
-{
-    let mut i = b;
-    while i < end {
-        if is_live(heap, tables, turned, i) {
-            i += 1;
-        } else {
-            return false;
-        }
-    }
-    true
+    build(heap, tables, d, a, &[u64::from(Cell::Int(value))])
 }
 
 // The reference in register i as an argument.
+#[tactic(auto, unfolding(crate::specs::Build::argument_word))]
 fn argument(tables: &[u64], i: u8) -> u64
     ensures { result ≡ argument_word tables.now i }
 {
-    pack_cell(Cell::Argument(reference(registers::register(
-        tables,
-        registers::copy_number(tables),
-        i,
-    ))))
+    u64::from(Cell::Argument(Ref::from(register(tables, copy_number(tables), i))))
 }
 
-// The arguments from b up to the end go to the words from 1 on.
-fn put_arguments(tables: &[u64], b: u8, end: u8, term: &mut [u64])
-    ensures { term.new ≡ arguments_put tables.now (end - b) b 1 term.old }
-{
-    let mut i = b;
-    let mut k: usize = 1;
-    while i < end {
-        cells::put(term, k, argument(tables, i));
-        i += 1;
-        k += 1;
+// The arguments of a structure: the terms in as many registers, from register `first` on.
+#[derive(Clone, Copy)]
+struct Arguments {
+    first: u8,
+    arity: u8,
+    ghost few: { arity ≤ 14 },
+    ghost there: { first + arity ≤ 32 },
+}
+
+impl Arguments {
+    // An arity over 14 and a register past 31 are no step.
+    fn of(first: u8, arity: u8) -> Option<Arguments>
+        ensures some { is_some result ≡ is_structure arity first }
+        ensures same { IfSome result (λ x. (x.first ≡ first) × (x.arity ≡ arity)) }
+    {
+        if arity <= 14 && first as u16 + arity as u16 <= 32 {
+            Some(Arguments { first, arity })
+        } else {
+            None
+        }
+    }
+
+    // Is each of them a term of a live region?
+    #[tactic(auto, unfolding(crate::specs::Build::arguments_live))]
+    fn live(self, view: &View<'_>, tables: &[u64]) -> bool
+        ensures { result ≡ arguments_live self.arity self.first view.now.words.now tables.now view.now.turned.now }
+    {
+        (self.first..self.first + self.arity).all(|i| live_term(view, tables, i).is_some())
+    }
+
+    // They go to the words from 1 on.
+    #[tactic(auto, using(crate::proofs::Arguments::put_turn, crate::proofs::Arguments::put_ends))]
+    fn put(self, tables: &[u64], term: &mut [u64])
+        ensures { term.new ≡ arguments_put tables.now self.arity self.first 1 term.old }
+    {
+        for k in 0..self.arity {
+            put(term, k as usize + 1, argument(tables, self.first + k));
+        }
+    }
+
+    // The words of a structure of them, its head and its arguments: as many of the 15 as there are.
+    #[tactic(auto, using(crate::proofs::Arguments::structure_words_lem))]
+    fn structure(self, tables: &[u64], functor: u16) -> [u64; 15]
+        ensures { take (self.arity + 1) result ≡ structure_words functor self.arity self.first tables.now }
+    {
+        let mut term = [0; 15];
+        term[0] = u64::from(Cell::Head {
+            functor,
+            arity: self.arity,
+        });
+        self.put(tables, &mut term);
+        term
     }
 }
 
-// The words of a structure, in the first of 15: its head, and its arguments.
-fn structure_term(tables: &[u64], b: u8, end: u8, functor: u16, arity: u8) -> [u64; 15]
-    ensures { result ≡ arguments_put tables.now (end - b) b 1 (set (replicate 15 0) 0 (cell_word 12 (Head functor arity))) }
-{
-    let mut term = [0u64; 15];
-    term[0] = pack_cell(Cell::Head { functor, arity });
-    put_arguments(tables, b, end, &mut term);
-    term
-}
-
-// A term goes into the region in register a if its arguments, in the registers from b up to the end, are good.
-fn build_over(
-    heap: &mut [u64],
-    tables: &mut [u64],
-    born: &mut [u8],
-    turned: &[u8],
-    first: u16,
-    pages: u16,
-    d: u8,
-    a: u8,
-    b: u8,
-    end: u8,
-    term: &[u64],
-) -> Answer
-    ensures answer { result ≡ build_answer first pages a (arguments_live (end - b) b heap.old tables.old turned.now) term.now heap.old tables.old turned.now }
-    ensures tables { tables.new ≡ build_tables first pages d a (arguments_live (end - b) b heap.old tables.old turned.now) term.now heap.old tables.old turned.now }
-    ensures memory { memory heap.new born.new turned.now ≡ build_memory first pages a (arguments_live (end - b) b heap.old tables.old turned.now) term.now tables.old (memory heap.old born.old turned.now) }
-{
-    let good = all_live(heap, tables, turned, b, end);
-    build(heap, tables, born, turned, first, pages, d, a, good, term)
-}
-
-// Op 5.
+// Op 5. An arity over 14 and a register past 31 are no step.
+#[tactic(auto, unfolding(crate::specs::Build::structure_answer, crate::specs::Build::structure_tables, crate::specs::Build::structure_memory, crate::specs::Build::build_answer, crate::specs::Build::build_tables, crate::specs::Build::build_memory))]
 pub fn structure(
-    heap: &mut [u64],
+    heap: &mut Filling<'_>,
     tables: &mut [u64],
-    born: &mut [u8],
-    turned: &[u8],
-    first: u16,
-    pages: u16,
     d: u8,
     a: u8,
     b: u8,
     functor: u16,
     arity: u8,
-) -> Answer
-    ensures answer { result ≡ structure_answer first pages a b functor arity heap.old tables.old turned.now }
-    ensures tables { tables.new ≡ structure_tables first pages d a b functor arity heap.old tables.old turned.now }
-    ensures memory { memory heap.new born.new turned.now ≡ structure_memory first pages a b functor arity tables.old (memory heap.old born.old turned.now) }
+) -> Result<(), Refusal>
+    ensures answer { told_done result ≡ structure_answer heap.old.pages.first heap.old.pages.count a b functor arity heap.old.words.now tables.old heap.old.turned.now }
+    ensures tables { tables.new ≡ structure_tables heap.old.pages.first heap.old.pages.count d a b functor arity heap.old.words.now tables.old heap.old.turned.now }
+    ensures memory { memory_in heap.new ≡ structure_memory heap.old.pages.first heap.old.pages.count a b functor arity tables.old (memory_in heap.old) }
+    ensures kept { KeptFilling heap.old heap.new }
 {
-    if 14 < arity {
-        return Answer {
-            status: 2,
-            kind: 0,
-            pairs: 0,
-            payload: 0,
-        };
+    let arguments = Arguments::of(b, arity).ok_or(Refusal::NoStep)?;
+    let home = home_of(heap, tables, a).ok_or(Refusal::NoRegion)?;
+    if !arguments.live(&heap.view(), tables) {
+        return Err(Refusal::Dead);
     }
-    let last = b as u16 + arity as u16;
-    if 32 < last {
-        return Answer {
-            status: 2,
-            kind: 0,
-            pairs: 0,
-            payload: 0,
-        };
-    }
-    let end = last as u8;
-    let term = structure_term(tables, b, end, functor, arity);
-    let words = arity as usize + 1;
-    build_over(
-        heap,
-        tables,
-        born,
-        turned,
-        first,
-        pages,
-        d,
-        a,
-        b,
-        end,
-        &term[0..words],
-    )
+    let term = arguments.structure(tables, functor);
+    put_term(heap, tables, d, home, &term[..arity as usize + 1])
 }

@@ -1,7 +1,7 @@
 -- What is packed into a heap word or a register word is read back, for every address width k from 4 to 16. So two values with one word are one.
 use mathlib.Core.Path.{◌≡◌, refl, sym, ap, ◌∙◌, subst}
 use mathlib.Core.Logic.{◌≢◌}
-use mathlib.Core.Option.{Option, none, some}
+use Rattle.std.specs.Prelude.{Option, Some, None}
 use Prim.Native.Nat.{ℕ, ◌+◌, ◌-◌, ◌*◌, ◌^◌, ◌≤◌, ◌<◌}
 use native.Mathlib.Omega.{arith}
 use lib.IntN.{ℤ}
@@ -9,14 +9,13 @@ use lib.Pow.{shl_lt, pow_pos}
 use Rattle.words.specs.declared.Ref.{Ref}
 use Rattle.words.specs.declared.Cell.{Cell}
 use Rattle.words.specs.declared.Cell.TheVariants.{Unbound, Bound, Int, Head, Argument}
-use Rattle.words.specs.declared.Link.TheVariants.{Last, Joined}
 use Rattle.words.specs.declared.Word.{Word}
 use Rattle.words.specs.declared.Register.{Register}
 use Rattle.words.specs.declared.Register.TheVariants.{Empty, Region, Term}
 use Rattle.words.specs.Fields.{bits, tagged, tag_of}
 use Rattle.words.specs.Integers.{bits_of, int_of, IntIn}
 use Rattle.words.specs.Words.{ref_bits, cell_word, link_word, register_word, heap_word, stamp_of, address_of, ref_of, heap_reading, register_reading}
-use Rattle.words.specs.Fit.{RefFits, CellFits, cell_tag, NextFits, has_next, next_page, LinkFits, WordFits, RegisterFits, register_tag}
+use Rattle.words.specs.Fit.{RefFits, CellFits, cell_tag, NextFits, has_next, next_page, WordFits, RegisterFits, register_tag}
 use Rattle.words.proofs.Fields.{bits_at}
 use Rattle.words.proofs.Ints.{int_bits, int_below}
 
@@ -50,10 +49,10 @@ arity_back f n hf hn = bits_at 40 4 (4 * 2 ^ 16 + f) n 0 (tagged 4 (f * 2 ^ 44 +
 -- has-next and the next page say whether there is one, and which
 next_same : (i j : Option ℕ) → has_next i ≡ has_next j → next_page i ≡ next_page j → i ≡ j
 unfolding has_next next_page
-next_same none none f p = refl
-next_same none (some n) f p = absurd (omega arith)
-next_same (some m) none f p = absurd (omega arith)
-next_same (some m) (some n) f p = ap some p
+next_same None None f p = refl
+next_same None (Some n) f p = absurd (omega arith)
+next_same (Some m) None f p = absurd (omega arith)
+next_same (Some m) (Some n) f p = ap Some p
 
 module _ (k : ℕ) (low : 4 ≤ k) (high : k ≤ 16) where
   -- ---- a tag, a stamp, then what stands at the address or at the next page
@@ -89,18 +88,18 @@ module _ (k : ℕ) (low : 4 ≤ k) (high : k ≤ 16) where
 
   link_is : (s : ℕ) (next : Option ℕ) → link_word k s next ≡ tagged 6 (s * 2 ^ 28 + next_bits next)
   unfolding link_word has_next next_page
-  link_is s none = omega arith
-  link_is s (some n) = omega arith
+  link_is s None = omega arith
+  link_is s (Some n) = omega arith
 
   flag_room : (next : Option ℕ) → has_next next < 2
   unfolding has_next
-  flag_room none = omega arith
-  flag_room (some n) = omega arith
+  flag_room None = omega arith
+  flag_room (Some n) = omega arith
 
   page_room : (next : Option ℕ) → NextFits k next → next_page next < 2 ^ (k - 4)
   unfolding NextFits next_page
-  page_room none h = pow_pos (k - 4)
-  page_room (some n) h = h
+  page_room None h = pow_pos (k - 4)
+  page_room (Some n) h = h
 
   next_room : (next : Option ℕ) → NextFits k next → next_page next * 2 ^ (31 - k) < 2 ^ 27
   next_room next h =
@@ -208,20 +207,16 @@ module _ (k : ℕ) (low : 4 ≤ k) (high : k ≤ 16) where
       rw (cell_tag_lem (Head f n) h) (λ i. Word.Filled (Head (a i) (b i)))
   cell_back (Argument r) h = rw (cell_tag_lem (Argument r) h) (ap (λ (x : Ref). Word.Filled (Argument x)) (ref_back 5 r h))
 
-  last_back : (s : ℕ) → s < 2 ^ 32 → heap_reading k (link_word k s none) ≡ Word.Linked (Last s)
-  unfolding heap_reading NextFits has_next
-  last_back s h = rw (link_tag s h none tt, (link_next s none tt).0, link_stamp s h none tt)
-
-  joined_back : (s n : ℕ) → s < 2 ^ 32 → n < 2 ^ (k - 4) → heap_reading k (link_word k s (some n)) ≡ Word.Linked (Joined s n)
+  link_back : (s : ℕ) (next : Option ℕ) → s < 2 ^ 32 → NextFits k next → heap_reading k (link_word k s next) ≡ Word.Linked (record { stamp = s; next = next })
   unfolding heap_reading NextFits has_next next_page
-  joined_back s n h l = rw (link_tag s h (some n) l, (link_next s (some n) l).0, (link_next s (some n) l).1, link_stamp s h (some n) l)
+  link_back s None h l = rw (link_tag s h None tt, (link_next s None tt).0, link_stamp s h None tt)
+  link_back s (Some n) h l = rw (link_tag s h (Some n) l, (link_next s (Some n) l).0, (link_next s (Some n) l).1, link_stamp s h (Some n) l)
 
   pub heap_back : (w : Word) → WordFits k w → heap_reading k (heap_word k w) ≡ w
-  unfolding heap_reading heap_word WordFits LinkFits
+  unfolding heap_reading heap_word WordFits
   heap_back Word.Empty h = refl
   heap_back (Word.Filled c) h = cell_back c h
-  heap_back (Word.Linked (Last s)) h = last_back s h
-  heap_back (Word.Linked (Joined s n)) h = joined_back s n h.0 h.1
+  heap_back (Word.Linked l) h = link_back l.stamp l.next h.stamp h.next
   heap_back Word.Broken h = absurd h
 
   pub register_tag_lem : (r : Register) → RegisterFits k r → tag_of (register_word k r) ≡ register_tag r

@@ -1,8 +1,6 @@
 pub mod Fields
 pub mod Back
 pub mod Ints
-pub mod Complement
-pub mod Packing
 pub mod Tests
 pub mod Unpacking
 pub mod Holding

@@ -1,13 +1,10 @@
 -- What a reader by a table and a test gives.
 use Rattle.std.specs.Prelude.{if◌then◌else◌}
-use mathlib.Core.Path.{◌≡◌, refl, sym, ◌∙◌}
+use mathlib.Core.Path.{◌≡◌, refl, sym}
 use mathlib.Core.Bool.{Bool, true, false, ◌&&◌}
 use mathlib.Core.Logic.{◌≢◌}
 use Prim.Native.Nat.{ℕ, ◌≤◌, ◌<◌}
 use native.Mathlib.Omega.{arith}
-use lib.Dec.{eqb}
-use borrow.Author.Rules.{rules}
-use borrow.Author.Tests.{eq-eqb, ne_eqb}
 
 -- one test in another is both
 pub if_both : {A : Type 0} (x y : A) (s t : Bool) → (if t then (if s then x else y) else y) ≡ (if s && t then x else y)
@@ -29,16 +26,6 @@ passed false x y refused e n = absurd (n (sym e))
 pub passed_both : {A : Type 0} (s t : Bool) (x y refused : A) → (if s && t then x else refused) ≡ y → y ≢ refused → (s ≡ true) × (t ≡ true) × (x ≡ y)
 passed_both true t x y refused e n = (refl, (passed t x y refused e n).0, (passed t x y refused e n).1)
 passed_both false t x y refused e n = absurd (n (sym e))
-
--- the code tests n, what a call returned, and the definition m, what the call's contract says that it is
-module _ {A : Type 0} (x y : A) (m n w : ℕ) (e : n ≡ m) where
-  pub same : n ≡ w → x ≡ (if eqb m w then x else y)
-  same h = rw (eq-eqb m w (sym e ∙ h))
-
-  pub other : (n ≡ w → ⊥) → y ≡ (if eqb m w then x else y)
-  other h = rw (ne_eqb m w (λ q. h (e ∙ q)))
-
-pub ruleset choosing = (rules, same, other)
 
 -- one number more is ruled out
 pub past : (t j : ℕ) → (t ≡ j → ⊥) → j ≤ t → j < t

@@ -1,12 +1,10 @@
 -- The values that a word's format has room for, by the widths of document 01, "Words", "Steps" and "Answer words". What fits is packed without loss.
 -- k is the width of an address, and k - 4 the width of a page's number.
-use Rattle.std.proofs.Math.Option.{Option, none, some}
-use Rattle.std.specs.Prelude.{ℕ, ◌-◌, ◌^◌, ◌≤◌, ◌<◌}
+use Rattle.std.specs.Prelude.{Option, Some, None, ℕ, ◌-◌, ◌^◌, ◌≤◌, ◌<◌}
 use Rattle.words.specs.declared.Ref.{Ref}
 use Rattle.words.specs.declared.Cell.{Cell}
 use Rattle.words.specs.declared.Cell.TheVariants.{Unbound, Bound, Int, Head, Argument}
 use Rattle.words.specs.declared.Link.{Link}
-use Rattle.words.specs.declared.Link.TheVariants.{Last, Joined}
 use Rattle.words.specs.declared.Word.{Word}
 use Rattle.words.specs.declared.Register.{Register}
 use Rattle.words.specs.declared.Register.TheVariants.{Empty, Region, Term}
@@ -38,21 +36,21 @@ cell_tag (Argument r) = 5
 
 -- a next page, if there is one
 unfoldable pub NextFits : ℕ → Option ℕ → Type 0
-NextFits k none = Unit {0}
-NextFits k (some next) = next < 2 ^ (k - 4)
+NextFits k None = Unit {0}
+NextFits k (Some next) = next < 2 ^ (k - 4)
 
 -- a link's fields has-next and next page: both 0 if there is none
 unfoldable pub has_next : Option ℕ → ℕ
-has_next none = 0
-has_next (some next) = 1
+has_next None = 0
+has_next (Some next) = 1
 
 unfoldable pub next_page : Option ℕ → ℕ
-next_page none = 0
-next_page (some next) = next
+next_page None = 0
+next_page (Some next) = next
 
-unfoldable pub LinkFits : ℕ → Link → Type 0
-LinkFits k (Last s) = s < 2 ^ 32
-LinkFits k (Joined s next) = (s < 2 ^ 32) × (next < 2 ^ (k - 4))
+pub record LinkFits (k : ℕ) (l : Link) : Type 0 where
+  pub stamp : l.stamp < 2 ^ 32
+  pub next : NextFits k l.next
 
 -- a broken word has no format
 unfoldable pub WordFits : ℕ → Word → Type 0

@@ -1,16 +1,13 @@
 -- Document 01, "Words, most significant bit first": heap words, link words and register words, packed and unpacked.
 -- k is the width of an address: 12 bits in document 01's edition. A next page then has k - 4 bits, since a page has 16 words.
-use Rattle.std.specs.Prelude.{Bool, true, ◌&&◌, [], ◌∷◌, ℕ, ◌+◌, ◌-◌, ◌*◌, ◌^◌, leb, eqb, get_or, if◌then◌else◌}
-use Rattle.std.proofs.Math.Option.{Option, none, some}
+use Rattle.std.specs.Prelude.{Bool, true, ◌&&◌, [], ◌∷◌, ℕ, ◌+◌, ◌-◌, ◌*◌, ◌^◌, leb, eqb, get_or, if◌then◌else◌, Some, None, Option}
 use Rattle.words.specs.declared.Ref.{Ref}
 use Rattle.words.specs.declared.Cell.{Cell}
 use Rattle.words.specs.declared.Cell.TheVariants.{Unbound, Bound, Int, Head, Argument}
 use Rattle.words.specs.declared.Link.{Link}
-use Rattle.words.specs.declared.Link.TheVariants.{Last, Joined}
 use Rattle.words.specs.declared.Word.{Word}
 use Rattle.words.specs.declared.Register.{Register}
 use Rattle.words.specs.declared.Register.TheVariants.{Empty, Region, Term}
-use Rattle.words.specs.declared.Held.{Held}
 use Rattle.words.specs.Fields.{bits, tagged, tag_of}
 use Rattle.words.specs.Integers.{bits_of, int_of}
 
@@ -29,8 +26,8 @@ cell_word k (Argument r) = tagged 5 (ref_bits k r)
 
 -- word 0 of a held page: the region's stamp, whether there is a next page, and which (0 if there is none)
 unfoldable pub link_word : ℕ → ℕ → Option ℕ → ℕ
-link_word k s none = tagged 6 (s * 2 ^ 28)
-link_word k s (some next) = tagged 6 (s * 2 ^ 28 + 2 ^ 27 + next * 2 ^ (31 - k))
+link_word k s None = tagged 6 (s * 2 ^ 28)
+link_word k s (Some next) = tagged 6 (s * 2 ^ 28 + 2 ^ 27 + next * 2 ^ (31 - k))
 
 unfoldable pub register_word : ℕ → Register → ℕ
 register_word k Empty = 0
@@ -41,8 +38,7 @@ register_word k (Term r) = tagged 8 (ref_bits k r)
 unfoldable pub heap_word : ℕ → Word → ℕ
 heap_word k Word.Empty = 0
 heap_word k (Word.Filled c) = cell_word k c
-heap_word k (Word.Linked (Last s)) = link_word k s none
-heap_word k (Word.Linked (Joined s next)) = link_word k s (some next)
+heap_word k (Word.Linked l) = link_word k l.stamp l.next
 heap_word k Word.Broken = 0
 
 -- ---- unpacked
@@ -58,7 +54,7 @@ ref_of k w = record { stamp = stamp_of w; address = address_of k w }
 
 -- a link: with has-next set, the next page is the region's
 abbrev pub link_of : ℕ → ℕ → Link
-link_of k w = if eqb (bits 27 1 w) 1 then Joined (stamp_of w) (bits (31 - k) (k - 4) w) else Last (stamp_of w)
+link_of k w = record { stamp = stamp_of w; next = if eqb (bits 27 1 w) 1 then Some (bits (31 - k) (k - 4) w) else None }
 
 -- what the fields of a word say, by its tag
 unfoldable pub heap_reading : ℕ → ℕ → Word
@@ -93,5 +89,5 @@ unfoldable pub register_reading : ℕ → ℕ → Register
 register_reading k w = if eqb (tag_of w) 0 then Empty else if eqb (tag_of w) 7 then Region (stamp_of w) else Term (ref_of k w)
 
 -- what a register word says, in the same way
-unfoldable pub unpack_register : ℕ → ℕ → Held
-unpack_register k w = if eqb (register_word k (register_reading k w)) w then Held.Holds (register_reading k w) else Held.Broken
+unfoldable pub unpack_register : ℕ → ℕ → Option Register
+unpack_register k w = if eqb (register_word k (register_reading k w)) w then Some (register_reading k w) else None

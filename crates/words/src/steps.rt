@@ -1,32 +1,30 @@
 // Step words: op 4, d 5, a 5, b 5, then fields. What a step does not name is zero.
 
-ghost use Rattle.std.specs.Prelude.{◌≡◌, ◌%◌, ◌^◌};
-ghost use Rattle.words.specs.declared.Step.TheVariants.{Integer, Structure, Unify, Destruct};
-ghost use Rattle.words.specs.Fields.{bits};
-ghost use Rattle.words.specs.Integers.{int_of};
+ghost use Rattle.std.specs.Prelude.{◌≡◌, ◌%◌, ◌^◌, unwrap_or};
+ghost use Rattle.words.specs.declared.Step.TheVariants.{Refused};
 ghost use Rattle.words.specs.Steps.{fields, shape, step_word, decode};
 ghost use Rattle.words.specs.Clip.{clipped_step, register};
 ghost use Rattle.words.specs.Exact.{exact_step, in_range};
 
 use crate::Step;
-use crate::integers::{bits_of, int_of};
+use crate::parts::{bits, exactly, integer};
 
 // The place of each field: its lowest bit.
-const OP_AT: u64 = 1152921504606846976; // 2 ^ 60
+const OP_AT: u64 = 1 << 60;
 
-const D_AT: u64 = 36028797018963968; // 2 ^ 55
+const D_AT: u64 = 1 << 55;
 
-const A_AT: u64 = 1125899906842624; // 2 ^ 50
+const A_AT: u64 = 1 << 50;
 
-const B_AT: u64 = 35184372088832; // 2 ^ 45
+const B_AT: u64 = 1 << 45;
 
-const BUDGET_AT: u64 = 8589934592; // 2 ^ 33
+const BUDGET_AT: u64 = 1 << 33;
 
-const FUNCTOR_AT: u64 = 536870912; // 2 ^ 29
+const FUNCTOR_AT: u64 = 1 << 29;
 
-const ARITY_AT: u64 = 33554432; // 2 ^ 25
+const ARITY_AT: u64 = 1 << 25;
 
-const VALUE_AT: u64 = 8192; // 2 ^ 13
+const VALUE_AT: u64 = 1 << 13;
 
 // The op and the three registers, each register modulo its width.
 fn frame(op: u64, d: u8, a: u8, b: u8) -> u64
@@ -42,75 +40,66 @@ fn shape(functor: u16, arity: u8) -> u64
 }
 
 // A field that is wider here than in the word is taken modulo its width.
-pub fn pack_step(s: Step) -> u64
-    ensures { result ≡ step_word (clipped_step s) }
-{
-    match s {
-        Step::Refused => 0,
-        Step::MakeRegion { d } => frame(1, d, 0, 0),
-        Step::KillRegion { a } => frame(2, 0, a, 0),
-        Step::MakeVar { d, a } => frame(3, d, a, 0),
-        Step::Integer { d, a, value } => frame(4, d, a, 0) + bits_of(value) as u64 * VALUE_AT,
-        Step::Structure {
-            d,
-            a,
-            b,
-            functor,
-            arity,
-        } => frame(5, d, a, b) + shape(functor, arity),
-        Step::Unify { a, b, budget } => frame(6, 0, a, b) + (budget % 4096) as u64 * BUDGET_AT,
-        Step::Deref { d, a } => frame(7, d, a, 0),
-        Step::Destruct {
-            d,
-            a,
-            functor,
-            arity,
-        } => frame(8, d, a, 0) + shape(functor, arity),
-        Step::PushChoice => 9 * OP_AT,
-        Step::Cut => 10 * OP_AT,
-        Step::Backtrack => 11 * OP_AT,
-    }
-}
+impl From<Step> for u64 {
+    ghost from_gives = { λ s w. w ≡ step_word (clipped_step s) };
 
-// What the fields of a word say, if that is the whole of it: packed again it is this word, so no other bit is set.
-fn exactly(w: u64, s: Step) -> Step
-    ensures { result ≡ exact_step w s }
-{
-    if pack_step(s) == w { s } else { Step::Refused }
-}
-
-// A step of as many arguments, in the registers from the first on: an arity is 0 to 14, and no register is past 31.
-fn in_range(first: u8, arity: u8, s: Step) -> Step
-    ensures { result ≡ in_range first arity s }
-{
-    if arity <= 14 {
-        if first as u16 + arity as u16 <= 32 {
-            s
-        } else {
-            Step::Refused
+    #[tactic(auto, unfolding(crate::specs::Steps::step_word, crate::specs::Clip::clipped_step))]
+    fn from(s: Step) -> u64 {
+        match s {
+            Step::Refused => 0,
+            Step::MakeRegion { d } => frame(1, d, 0, 0),
+            Step::KillRegion { a } => frame(2, 0, a, 0),
+            Step::MakeVar { d, a } => frame(3, d, a, 0),
+            Step::Integer { d, a, value } => frame(4, d, a, 0)
+                + value.cast_unsigned() as u64 * VALUE_AT,
+            Step::Structure {
+                d,
+                a,
+                b,
+                functor,
+                arity,
+            } => frame(5, d, a, b) + shape(functor, arity),
+            Step::Unify { a, b, budget } => frame(6, 0, a, b) + (budget % 4096) as u64 * BUDGET_AT,
+            Step::Deref { d, a } => frame(7, d, a, 0),
+            Step::Destruct {
+                d,
+                a,
+                functor,
+                arity,
+            } => frame(8, d, a, 0) + shape(functor, arity),
+            Step::PushChoice => 9 * OP_AT,
+            Step::Cut => 10 * OP_AT,
+            Step::Backtrack => 11 * OP_AT,
         }
-    } else {
-        Step::Refused
     }
 }
 
-fn integer(w: u64, d: u8, a: u8) -> Step
-    ensures { result ≡ exact_step w (Integer d a (int_of (bits 13 32 w))) }
+// May a step have so many arguments, in the registers from the first on? An arity is 0 to 14, and no register is past 31.
+fn in_range(first: u8, arity: u8) -> bool
+    ensures { result ≡ in_range first arity }
 {
-    let value = int_of((w / VALUE_AT % 4294967296) as u32);
-    exactly(w, Step::Integer { d, a, value })
+    arity <= 14 && first as u16 + arity as u16 <= 32
 }
 
-// its arguments are in the registers from b on
-fn structure(w: u64, d: u8, a: u8, b: u8) -> Step
-    ensures { result ≡ in_range b (bits 25 4 w) (exact_step w (Structure d a b (bits 29 16 w) (bits 25 4 w))) }
+// The step that a word says, if it says one. Op 0 and ops 12 to 15 are no steps. The arguments of a structure are in the registers from b on, those that
+// destruct gives go to the registers from d on.
+#[tactic(auto, using(crate::proofs::StepCode::by_op, crate::proofs::StepCode::no_op, crate::proofs::StepCode::told_whole))]
+fn said(w: u64) -> Option<Step>
+    ensures { unwrap_or result Refused ≡ decode w }
 {
-    let functor = (w / FUNCTOR_AT % 65536) as u16;
-    let arity = (w / ARITY_AT % 16) as u8;
-    in_range(
-        b,
-        arity,
-        exactly(
+    let d = bits(w, 55, 5) as u8;
+    let a = bits(w, 50, 5) as u8;
+    let b = bits(w, 45, 5) as u8;
+    let functor = bits(w, 29, 16) as u16;
+    let arity = bits(w, 25, 4) as u8;
+    let value = integer(w, 13);
+    let budget = bits(w, 33, 12) as u16;
+    match bits(w, 60, 4) {
+        1 => exactly(w, Step::MakeRegion { d }),
+        2 => exactly(w, Step::KillRegion { a }),
+        3 => exactly(w, Step::MakeVar { d, a }),
+        4 => exactly(w, Step::Integer { d, a, value }),
+        5 if in_range(b, arity) => exactly(
             w,
             Step::Structure {
                 d,
@@ -120,26 +109,9 @@ fn structure(w: u64, d: u8, a: u8, b: u8) -> Step
                 arity,
             },
         ),
-    )
-}
-
-fn unify(w: u64, a: u8, b: u8) -> Step
-    ensures { result ≡ exact_step w (Unify a b (bits 33 12 w)) }
-{
-    let budget = (w / BUDGET_AT % 4096) as u16;
-    exactly(w, Step::Unify { a, b, budget })
-}
-
-// its arguments go to the registers from d on
-fn destruct(w: u64, d: u8, a: u8) -> Step
-    ensures { result ≡ in_range d (bits 25 4 w) (exact_step w (Destruct d a (bits 29 16 w) (bits 25 4 w))) }
-{
-    let functor = (w / FUNCTOR_AT % 65536) as u16;
-    let arity = (w / ARITY_AT % 16) as u8;
-    in_range(
-        d,
-        arity,
-        exactly(
+        6 => exactly(w, Step::Unify { a, b, budget }),
+        7 => exactly(w, Step::Deref { d, a }),
+        8 if in_range(d, arity) => exactly(
             w,
             Step::Destruct {
                 d,
@@ -148,29 +120,18 @@ fn destruct(w: u64, d: u8, a: u8) -> Step
                 arity,
             },
         ),
-    )
-}
-
-// The step that a word says. Op 0 and ops 12 to 15 are none.
-pub fn decode(w: u64) -> Step
-    ensures { result ≡ decode w }
-{
-    let d = (w / D_AT % 32) as u8;
-    let a = (w / A_AT % 32) as u8;
-    let b = (w / B_AT % 32) as u8;
-    match w / OP_AT {
-        1 => exactly(w, Step::MakeRegion { d }),
-        2 => exactly(w, Step::KillRegion { a }),
-        3 => exactly(w, Step::MakeVar { d, a }),
-        4 => integer(w, d, a),
-        5 => structure(w, d, a, b),
-        6 => unify(w, a, b),
-        7 => exactly(w, Step::Deref { d, a }),
-        8 => destruct(w, d, a),
         9 => exactly(w, Step::PushChoice),
         10 => exactly(w, Step::Cut),
         11 => exactly(w, Step::Backtrack),
-        12..=15 => Step::Refused,
-        _ => Step::Refused,
+        12..=15 => None,
+        _ => None,
+    }
+}
+
+impl From<u64> for Step {
+    ghost from_gives = { λ w s. s ≡ decode w };
+
+    fn from(w: u64) -> Step {
+        said(w).unwrap_or(Step::Refused)
     }
 }

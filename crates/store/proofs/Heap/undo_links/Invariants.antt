@@ -1,0 +1,6 @@
+use Rattle.store.specs.Undo.{link_after}
+use Rattle.store.proofs.Passes.{Passing}
+use Rattle.store.proofs.Heap.undo_links.Given as goal
+
+abbrev pub invariant-loop-p : goal.invariant-loop-p
+invariant-loop-p l = Passing (link_after l.undo.which l.undo.j) l.fn.self.pages.count l.fn.self.pages.first l.p l.fn.self l.self
