@@ -1,11 +1,11 @@
 -- The pages: a free page is empty with its marks; the pages of a stamp are one chain from its first page to its newest.
-use Rattle.std.specs.Prelude.{Bool, false, not, ◌&&◌, ◌||◌, List, ℕ, zero, suc, ◌+◌, ◌*◌, eqb, ltb, leb, get_or, Option, Some, None, if◌then◌else◌}
+use Rattle.std.specs.Prelude.{Bool, true, false, not, ◌&&◌, ◌||◌, List, ℕ, zero, suc, ◌+◌, ◌*◌, eqb, ltb, leb, get_or, Option, Some, None, if◌then◌else◌}
+use Rattle.laws.specs.Base.{on_some}
 use Rattle.laws.specs.Loops.{seek}
 use Rattle.words.specs.declared.Link.{Link}
 use Rattle.words.specs.declared.Word.{Word}
-use Rattle.words.specs.Fields.{bits}
-use Rattle.words.specs.Words.{unpack_heap}
-use Rattle.store.specs.Pages.{link, newest_page, of_stamp, on_page}
+use Rattle.words.specs.Words.{next_of, unpack_heap}
+use Rattle.store.specs.Pages.{link, newest_page, of_stamp}
 use Rattle.audit.specs.declared.Home.{Home}
 use Rattle.audit.specs.Session.{Session}
 use Rattle.audit.specs.Live.{stamp_in, page_in, newest_copy}
@@ -16,21 +16,18 @@ abbrev pub is_at : Option ℕ → ℕ → Bool
 is_at (Some q) p = eqb q p
 is_at None p = false
 
--- the link of page p: has it a next page, and which
-abbrev pub has_next : List ℕ → ℕ → Bool
-has_next h p = eqb (bits 27 1 (link h p)) 1
-
-abbrev pub next_page : List ℕ → ℕ → ℕ
-next_page h p = bits 19 8 (link h p)
+-- the page that the link of page p names as the next, if it names one
+abbrev pub next_page : List ℕ → ℕ → Option ℕ
+next_page h p = next_of 12 (link h p)
 
 -- page q is the next page of page p
 abbrev pub names_next : List ℕ → ℕ → ℕ → Bool
-names_next h q p = has_next h p && eqb (next_page h p) q
+names_next h q p = is_at (next_page h p) q
 
 -- from page p the links lead to a last page, over fewer than k links
 unfoldable pub ends_in : List ℕ → ℕ → ℕ → Bool
 ends_in h zero p = false
-ends_in h (suc k) p = not (has_next h p) || ends_in h k (next_page h p)
+ends_in h (suc k) p = on_some (next_page h p) (λ q. ends_in h k q) true
 
 -- the marks of a held page's link, where n is the present copy: the copies that have the page are in order, and a region that is gone is in an older copy
 abbrev pub gone_ok : ℕ → ℕ → ℕ → Bool
@@ -71,12 +68,12 @@ unfoldable pub joined_ok : Session → ℕ → ℕ → ℕ → Bool
 joined_ok s stamp p q = region_ok s stamp p && follows_ok s stamp p q
 
 unfoldable pub link_ok : Session → Link → ℕ → Bool
-link_ok s l p = on_page l.next (λ q. joined_ok s l.stamp p q) (last_ok s l.stamp p)
+link_ok s l p = on_some l.next (λ q. joined_ok s l.stamp p q) (last_ok s l.stamp p)
 
 -- what is known of the cells of page p
 unfoldable pub home_of : Session → Link → ℕ → Home
 home_of s l p =
-    record { stamp = l.stamp; newest = newest_copy s p; full = on_page l.next (λ q. get_or s.born (q * 16) 0) (newest_copy s p) }
+    record { stamp = l.stamp; newest = newest_copy s p; full = on_some l.next (λ q. get_or s.born (q * 16) 0) (newest_copy s p) }
 
 -- a held page with its cells
 unfoldable pub linked_ok : Session → Link → ℕ → Bool

@@ -114,7 +114,7 @@ impl<'a> Session<'a> {
         more == 0 && self.all_blank(count, p, i)
     }
 
-    // The words of page p from word i on.
+    // The words of page p from word i on; `fill` says what was seen of the words before. A loop with that state would need the definition again as its invariant.
     #[tactic(auto, unfolding(crate::specs::Cells::cells_ok))]
     pub fn cells_ok(&self, home: Home, p: u32, i: u8, fill: Fill) -> bool
         ensures { result ≡ cells_ok (session_of self.now) home (16 - i) (p * 16 + i) fill }

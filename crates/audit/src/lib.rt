@@ -75,6 +75,7 @@ fn heap_length_ok(k: usize) -> bool
     k % 16 == 0 && (16..=WORDS).contains(&k)
 }
 
+// The four slices stand apart here: the page range of a view follows from the heap's length only when that has passed.
 #[tactic(auto, unfolding(crate::specs::Audit::lengths_ok))]
 fn lengths_ok(heap: &[u64], tables: &[u64], born: &[u8], turned: &[u8]) -> bool
     ensures test { result ≡ lengths_ok (lent heap.now tables.now born.now turned.now) }
@@ -87,6 +88,7 @@ fn lengths_ok(heap: &[u64], tables: &[u64], born: &[u8], turned: &[u8]) -> bool
 }
 
 impl<'a> Session<'a> {
+    // The pages by numbers of 32 bits, which times 16 fit a usize.
     fn all_pages_ok(&self) -> bool
         ensures { result ≡ all_of (page_ok (session_of self.now)) self.now.view.pages.count self.now.view.pages.first }
     {

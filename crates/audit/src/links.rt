@@ -5,7 +5,6 @@ ghost use Rattle.laws.specs.Loops.{seek};
 ghost use Rattle.audit.specs.Session.{session_of};
 ghost use Rattle.audit.specs.Links.{
   is_at,
-  has_next,
   next_page,
   names_next,
   ends_in,
@@ -34,22 +33,17 @@ fn gone_ok(present: u8, born: u8, turned: u8) -> bool
 }
 
 impl<'a> Session<'a> {
-    fn has_next(&self, p: usize) -> bool
-        ensures { result ≡ has_next self.now.view.words.now p }
-    {
-        heap::has_next(self.view.link(p))
-    }
-
-    fn next_page(&self, p: usize) -> u16
+    // The page that the link of page p names as the next, if it names one.
+    fn next_page(&self, p: usize) -> Option<u16>
         ensures { result ≡ next_page self.now.view.words.now p }
     {
-        heap::next_page(self.view.link(p))
+        heap::next(self.view.link(p))
     }
 
     fn names_next(&self, q: u16, p: usize) -> bool
         ensures { result ≡ names_next self.now.view.words.now q p }
     {
-        self.has_next(p) && self.next_page(p) == q
+        self.next_page(p) == Some(q)
     }
 
     // The first page whose next page is q.
@@ -65,10 +59,10 @@ impl<'a> Session<'a> {
     {
         let mut at = p;
         for _turn in 0..k {
-            if !self.has_next(at) {
+            let Some(next) = self.next_page(at) else {
                 return true;
-            }
-            at = self.next_page(at) as usize;
+            };
+            at = next as usize;
         }
         false
     }

@@ -23,7 +23,7 @@ use crate::{CopyRange, Session};
 use words::Ref;
 use words::heap::tag;
 
-// No copy has a number as large as this.
+// No copy has a number as large as this. It stands for no copy as a bound does, where an Option would be taken apart before each comparison.
 const NEVER: u16 = 256;
 
 // A word of tag 1 or 2 is a variable, one of tag 1 to 4 starts a term.

@@ -5,3 +5,4 @@ pub mod Scan
 pub mod Turns
 pub mod Stores
 pub mod Options
+pub mod Conditions

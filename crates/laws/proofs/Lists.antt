@@ -5,7 +5,7 @@ use mathlib.Core.Bool.{Bool, true, false, not, ◌||◌, true≢false}
 use mathlib.Core.Logic.{◌⊎◌, inl, inr, ◌≢◌}
 use mathlib.Core.List.Memᴰ
 use mathlib.Core.List.{List, [], ◌∷◌, ◌++◌, map, Memᴰ}
-use Rattle.laws.proofs.Options.{None-ne-Some, Some-injective}
+use Rattle.laws.proofs.Options.{none_ne_some, some_injective}
 use Prim.Native.Nat.{ℕ, zero, suc, ◌≤◌}
 use native.Mathlib.Omega.{arith}
 use lib.ListN.{length, get_or, set, replicate}
@@ -152,11 +152,11 @@ some_at {A} f (y ∷ ys) e = by (f y) refl e (λ k. some_at f ys k)
 
 -- what is found first passes the test, and is there
 pub first_at : {A : Type 0} (f : A → Bool) (l : List A) (x : A) → first f l ≡ Some x → Memᴰ x l × (f x ≡ true)
-first_at f [] x e = absurd (None-ne-Some x e)
+first_at f [] x e = absurd (none_ne_some x e)
 first_at f (y ∷ ys) x e = by (f y) refl e (λ k. first_at f ys x k)
   where
     by : (t : Bool) → f y ≡ t → (if t then Some y else first f ys) ≡ Some x → (first f ys ≡ Some x → Memᴰ x ys × (f x ≡ true)) → Memᴰ x (y ∷ ys) × (f x ≡ true)
-    by true q k ih = let z : y ≡ x = Some-injective y x k in (Memᴰ.head (sym z), ap f (sym z) ∙ q)
+    by true q k ih = let z : y ≡ x = some_injective y x k in (Memᴰ.head (sym z), ap f (sym z) ∙ q)
     by false q k ih = (Memᴰ.tail (ih k).0, (ih k).1)
 
 pub not_true : (b : Bool) → not b ≡ true → b ≡ false

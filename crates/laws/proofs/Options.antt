@@ -1,8 +1,8 @@
 -- What tells the two kinds of an option apart.
 use Rattle.std.proofs.Common.{◌≡◌, Option, Some, None}
 
-pub None-ne-Some : {A : Type 0} (a : A) → ◌≡◌ {A = Option A} None (Some a) → ⊥
-None-ne-Some a e = cc
+pub none_ne_some : {A : Type 0} (a : A) → ◌≡◌ {A = Option A} None (Some a) → ⊥
+none_ne_some a e = cc
 
-pub Some-injective : {A : Type 0} (a b : A) → Some a ≡ Some b → a ≡ b
-Some-injective a b e = cc
+pub some_injective : {A : Type 0} (a b : A) → Some a ≡ Some b → a ≡ b
+some_injective a b e = cc

@@ -1,7 +1,7 @@
 -- What a test on numbers says, for `omega`; and two tests that say the same.
 use mathlib.Core.Path.{◌≡◌, refl, sym, ◌∙◌}
 use mathlib.Core.Bool.{Bool, true, false}
-use Prim.Native.Nat.{ℕ, ◌≤◌}
+use Prim.Native.Nat.{ℕ, ◌≤◌, ◌<◌}
 use lib.Dec.{leb}
 use borrow.Author.Tests.{leb-true, leb-false, eqb-true, eqb-false, le-leb}
 use native.Mathlib.Omega.{arith}
@@ -20,3 +20,7 @@ leb_same a b c d f g = go (leb a b) refl
         back : (t : Bool) → leb c d ≡ t → leb c d ≡ false
         back true k = absurd (omega (tests, g (leb-true c d k)))
         back false k = k
+
+-- one number more is ruled out
+pub past : (t j : ℕ) → (t ≡ j → ⊥) → j ≤ t → j < t
+past t j n h = omega arith

@@ -17,6 +17,11 @@ module _ {A : Type 0} where
   some_of f [] = false
   some_of f (x ∷ xs) = f x || some_of f xs
 
+-- what follows from a value, if there is one
+abbrev pub on_some : {A B : Type 0} → Option A → (A → B) → B → B
+on_some (Some x) f z = f x
+on_some None f z = z
+
 -- n, n + 1, .., as many as the first number says
 abbrev pub from : ℕ → ℕ → List ℕ
 from zero n = []

@@ -8,7 +8,7 @@ use lib.ListN.{length, set, get_or-eq_default}
 use Rattle.laws.specs.Loops.{run}
 use Rattle.listing.specs.File.{four_at, word_at, words_read}
 
-pub no_bytes : (file : List ℕ) (a : ℕ) → length file ≤ a → 0 ≡ four_at file a
+no_bytes : (file : List ℕ) (a : ℕ) → length file ≤ a → 0 ≡ four_at file a
 unfolding four_at
 no_bytes file a h =
     let e₁ : length file ≤ a + 1 = omega arith in

@@ -1,5 +1,5 @@
-// The lines of a run, written into a lent buffer. Nothing is allocated, and what does not fit is cut off. `Display` and `write!` are not used: they would need a
-// writer whose promise says which bytes it wrote and what is cut off, where here fixed byte strings do (docs/DECISIONS.md, 45).
+// The lines of a run, written into a lent buffer. Nothing is allocated, and what does not fit is cut off. `write!` is not used: to a writer that states its bytes it
+// ensures them only where it answers `Ok`, and no promise says that it does so where the writer never fails (docs/DECISIONS.md, 45).
 
 ghost use Rattle.std.specs.Prelude.{◌≡◌, [], ◌∷◌, ◌++◌, map, ◌+◌, ◌%◌};
 ghost use Rattle.machine.specs.Program.{decimal, space, step_line, step_lines, last_line, refused_line};

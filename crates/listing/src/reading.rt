@@ -1,37 +1,23 @@
 // A step file: words of 8 bytes, most significant first, and the first of them.
 
 ghost use Rattle.std.specs.Prelude.{◌≡◌};
-ghost use Rattle.listing.specs.File.{four_at, word_at, words_read};
+ghost use Rattle.listing.specs.File.{word_at, words_read};
 ghost use Rattle.machine.specs.Program.{pages_of, first_stamp, first_refused};
 
+use std::array;
 use store::memory::{put, read};
 use words::parts::bits;
 
-// Four bytes from place a on. For a place past the end a + 3 might not fit a usize.
-#[tactic(auto, unfolding(crate::specs::File::four_at))]
-fn four_at(file: &[u8], a: usize) -> u32
-    ensures { result ≡ four_at file.now a }
-{
-    if file.len() <= a {
-        return 0;
-    }
-    u32::from_be_bytes([
-        read(file, a, 0),
-        read(file, a + 1, 0),
-        read(file, a + 2, 0),
-        read(file, a + 3, 0),
-    ])
-}
-
-// Word i of the file.
-#[tactic(auto, using(crate::proofs::File::no_word), unfolding(crate::specs::File::word_at))]
+// Word i of the file. For a word past the end i * 8 might not fit a usize.
+#[tactic(auto, using(crate::proofs::File::no_word), unfolding(crate::specs::File::word_at, crate::specs::File::four_at))]
 pub fn word_at(file: &[u8], i: usize) -> u64
     ensures { result ≡ word_at file.now i }
 {
     if file.len() / 8 < i {
         return 0;
     }
-    four_at(file, i * 8) as u64 * (1 << 32) + four_at(file, i * 8 + 4) as u64
+    let a = i * 8;
+    u64::from_be_bytes(array::from_fn(|k| read(file, a + k, 0)))
 }
 
 // The first `count` words of the file.

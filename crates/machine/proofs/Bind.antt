@@ -4,7 +4,7 @@ use mathlib.Core.Path.{◌≡◌, refl, sym, ap, ◌∙◌, subst}
 use mathlib.Core.Bool.{Bool, true, false, true≢false}
 use mathlib.Core.Logic.{◌⊎◌, inl, inr, ◌≢◌}
 use mathlib.Core.List.{List, [], ◌∷◌, map, Memᴰ}
-use Rattle.laws.proofs.Options.{None-ne-Some, Some-injective}
+use Rattle.laws.proofs.Options.{none_ne_some, some_injective}
 use Prim.Native.Nat.{ℕ, zero, suc, ◌-◌, ◌/◌, ◌%◌, ◌<◌}
 use native.Mathlib.Omega.{arith}
 use lib.Dec.{eqb}
@@ -48,20 +48,20 @@ module _ (s : Ref) where
   whole_here (suc more) v ws e h = rw e at h
 
   whole_bound : (ws : List Cell) (i : ℕ) → slice_get ws i ≡ Some Unbound → (more : ℕ) → Whole more ws → Whole more (set ws i (Bound s))
-  whole_bound [] i e more h = absurd (None-ne-Some Unbound e)
-  whole_bound (v ∷ vs) zero e more h = whole_here more v vs (Some-injective v Unbound e) h
+  whole_bound [] i e more h = absurd (none_ne_some Unbound e)
+  whole_bound (v ∷ vs) zero e more h = whole_here more v vs (some_injective v Unbound e) h
   whole_bound (v ∷ vs) (suc i) e more h = whole_rest more v vs (set vs i (Bound s)) (whole_bound vs i e) h
 
   grown_bound : (ws : List Cell) (i : ℕ) → slice_get ws i ≡ Some Unbound → Grown ws (set ws i (Bound s))
   unfolding Grown Later IsVariable
   grown_bound [] i e = tt
-  grown_bound (v ∷ vs) zero e = (rw (Some-injective v Unbound e) tt, grown_refl vs)
+  grown_bound (v ∷ vs) zero e = (rw (some_injective v Unbound e) tt, grown_refl vs)
   grown_bound (v ∷ vs) (suc i) e = (later_refl v, grown_bound vs i e)
 
 -- word i of a page is its cell i - 1
 word_get : (ws : List Cell) (i : ℕ) (w : Cell) → word ws i ≡ Some w → slice_get ws (i - 1) ≡ Some w
 unfolding word
-word_get ws zero w e = absurd (None-ne-Some w e)
+word_get ws zero w e = absurd (none_ne_some w e)
 word_get ws (suc i) w e = let z : suc i - 1 ≡ i = omega arith in rw z e
 
 -- ---- pages and regions
@@ -172,7 +172,7 @@ module _ (l : Limits) (next : ℕ) (c : Copy) (ok : CopyOk l next c) (r s : Ref)
   other : s ≢ r
   unfolding IsVariable
   other e =
-      let z : b.cell ≡ Unbound = Some-injective b.cell Unbound (sym b.found ∙ ap (cell_at c) e ∙ b.variable) in
+      let z : b.cell ≡ Unbound = some_injective b.cell Unbound (sym b.found ∙ ap (cell_at c) e ∙ b.variable) in
       let y : younger r s ≡ true = b.order (rw z tt) in
       true≢false (sym y ∙ ap (younger r) e ∙ not_younger r)
 
@@ -198,7 +198,7 @@ module _ (l : Limits) (next : ℕ) (c : Copy) (ok : CopyOk l next c) (r s : Ref)
   unfolding CellNames
   names_here = (
     still s (end_names c s b.cell b.found b.ends),
-    λ v f k. b.order (subst IsVariable (Some-injective v b.cell (sym f ∙ there s other ∙ b.found)) k),
+    λ v f k. b.order (subst IsVariable (some_injective v b.cell (sym f ∙ there s other ∙ b.found)) k),
   )
 
   names_after : (q : Ref) (w : Cell) → cell_at after q ≡ Some w → CellNames after q w
@@ -206,7 +206,7 @@ module _ (l : Limits) (next : ℕ) (c : Copy) (ok : CopyOk l next c) (r s : Ref)
     where
       by : (q ≡ r) ⊎ (q ≢ r) → CellNames after q w
       by (inl z) =
-          let v : Bound s ≡ w = Some-injective (Bound s) w (sym here ∙ ap (cell_at after) (sym z) ∙ e) in
+          let v : Bound s ≡ w = some_injective (Bound s) w (sym here ∙ ap (cell_at after) (sym z) ∙ e) in
           subst (λ (x : Ref). CellNames after x w) (sym z) (subst (CellNames after r) v names_here)
       by (inr n) = cells_kept l next c after (λ x i. still x) ok (λ x v y. was x v) q w (sym (there q n) ∙ e)
 

@@ -5,7 +5,7 @@ use mathlib.Core.Bool.{Bool, true, false}
 use mathlib.Core.Logic.{◌⊎◌, inl, inr, ◌≢◌}
 use mathlib.Core.List.Memᴰ
 use mathlib.Core.List.{List, [], ◌∷◌, map, Memᴰ}
-use Rattle.laws.proofs.Options.{None-ne-Some, Some-injective}
+use Rattle.laws.proofs.Options.{none_ne_some, some_injective}
 use Prim.Native.Nat.{ℕ, zero, suc, ◌^◌, ◌≤◌, ◌<◌}
 use native.Mathlib.Nat.{add-zero}
 use native.Mathlib.Omega.{arith}
@@ -238,9 +238,9 @@ module _ (m : Machine) (s : Sound m) (ws : List Cell) (term : TermOk m.limits m.
 -- the region that a register names is one of the copy
 region_at_lem : (c : Copy) (x : Register) (g : Region) → as_region c x ≡ Some g → Memᴰ g c.regions
 unfolding as_region
-region_at_lem c Reg.Empty g e = absurd (None-ne-Some g e)
+region_at_lem c Reg.Empty g e = absurd (none_ne_some g e)
 region_at_lem c (Reg.Region t) g e = (first_at (stamped t) c.regions g e).0
-region_at_lem c (Reg.Term r) g e = absurd (None-ne-Some g e)
+region_at_lem c (Reg.Term r) g e = absurd (none_ne_some g e)
 
 -- THE LAW OF BUILDING: to put a whole term whose cells name what they must, wherever they come to stand, keeps a sound machine sound
 pub building_sound : (m : Machine) (d a : ℕ) (ws : List Cell) → TermOk m.limits m.next ws → Each (Anywhere m.present) ws → Sound m →
@@ -274,13 +274,13 @@ exec_integer m d a v h = building_sound m d a (Int v ∷ []) (record { least = o
 -- a term that a step takes from a register is in it
 live_term : (c : Copy) (x : Register) (r : Ref) → as_live c x ≡ Some r → x ≡ Reg.Term r
 unfolding as_live
-live_term c Reg.Empty r e = absurd (None-ne-Some r e)
-live_term c (Reg.Region s) r e = absurd (None-ne-Some r e)
+live_term c Reg.Empty r e = absurd (none_ne_some r e)
+live_term c (Reg.Region s) r e = absurd (none_ne_some r e)
 live_term c (Reg.Term q) r e = by (live c q.stamp) e
   where
     by : (t : Bool) → (if t then Some q else None) ≡ Some r → Reg.Term q ≡ Reg.Term r
-    by true k = ap Reg.Term (Some-injective q r k)
-    by false k = absurd (None-ne-Some r k)
+    by true k = ap Reg.Term (some_injective q r k)
+    by false k = absurd (none_ne_some r k)
 
 -- n arguments of a term, which a sound copy's registers gave
 record Arguments (l : Limits) (next : ℕ) (c : Copy) (n : ℕ) (ws : List Cell) : Type 0 where
@@ -303,14 +303,14 @@ module _ (l : Limits) (next : ℕ) (c : Copy) (ok : CopyOk l next c) where
 
   operands_ok : (n b : ℕ) (ws : List Cell) → operands n c b ≡ Some ws → Arguments l next c n ws
   unfolding operands operand Whole
-  operands_ok zero b ws e = subst (Arguments l next c 0) (Some-injective [] ws e) (record { count = refl; whole = tt; cells = tt; names = tt })
+  operands_ok zero b ws e = subst (Arguments l next c 0) (some_injective [] ws e) (record { count = refl; whole = tt; cells = tt; names = tt })
   operands_ok (suc n) b ws e = by (live_at c b) refl (operands n c (suc b)) e (λ vs k. operands_ok n (suc b) vs k)
     where
       by : (o : Option Ref) → live_at c b ≡ o → (vs : Option (List Cell)) → operand o vs ≡ Some ws → ((us : List Cell) → vs ≡ Some us → Arguments l next c n us) →
           Arguments l next c (suc n) ws
-      by None q vs k ih = absurd (None-ne-Some ws k)
-      by (Some r) q None k ih = absurd (None-ne-Some ws k)
-      by (Some r) q (Some vs) k ih = subst (Arguments l next c (suc n)) (Some-injective (Argument r ∷ vs) ws k) (argument_more b n r vs q (ih vs refl))
+      by None q vs k ih = absurd (none_ne_some ws k)
+      by (Some r) q None k ih = absurd (none_ne_some ws k)
+      by (Some r) q (Some vs) k ih = subst (Arguments l next c (suc n)) (some_injective (Argument r ∷ vs) ws k) (argument_more b n r vs q (ih vs refl))
 
 pub exec_structure : (m : Machine) (d a b f n : ℕ) → f < 2 ^ 16 → n ≤ 14 → Sound m → Sound (exec m (Structure d a b f n)).machine
 unfolding exec headed Whole CellIn CellNames

@@ -5,7 +5,7 @@ use mathlib.Core.Bool.{Bool, true, false}
 use mathlib.Core.Logic.{◌⊎◌, inl, inr, ◌≢◌}
 use mathlib.Core.List.Memᴰ
 use mathlib.Core.List.{List, [], ◌∷◌, map, Memᴰ, Nodup, Nodup-cons}
-use Rattle.laws.proofs.Options.{None-ne-Some, Some-injective}
+use Rattle.laws.proofs.Options.{none_ne_some, some_injective}
 use Prim.Native.Nat.{ℕ, zero, suc, ◌-◌, ◌/◌, ◌%◌, ◌≤◌}
 use native.Mathlib.Omega.{arith}
 use lib.Dec.{eqb}
@@ -24,18 +24,18 @@ use Rattle.machine.proofs.Growth.{one_region}
 -- a cell is no word 0, and it is one of the page's words
 pub word_found : (ws : List Cell) (i : ℕ) (w : Cell) → word ws i ≡ Some w → (1 ≤ i) × Memᴰ w ws
 unfolding word
-word_found ws zero w e = absurd (None-ne-Some w e)
+word_found ws zero w e = absurd (none_ne_some w e)
 word_found ws (suc i) w e = (omega arith, at ws i e)
   where
     at : (vs : List Cell) (j : ℕ) → slice_get vs j ≡ Some w → Memᴰ w vs
-    at [] j q = absurd (None-ne-Some w q)
-    at (v ∷ vs) zero q = Memᴰ.head (sym (Some-injective v w q))
+    at [] j q = absurd (none_ne_some w q)
+    at (v ∷ vs) zero q = Memᴰ.head (sym (some_injective v w q))
     at (v ∷ vs) (suc j) q = Memᴰ.tail (at vs j q)
 
 pub page_found : (ps : List Page) (a : ℕ) (w : Cell) → in_pages ps a ≡ Some w →
     (p : Page) × Memᴰ p ps × (p.number ≡ a / 16) × (word p.words (a % 16) ≡ Some w)
 unfolding in_pages
-page_found [] a w h = absurd (None-ne-Some w h)
+page_found [] a w h = absurd (none_ne_some w h)
 page_found (q ∷ qs) a w h = by (eqb q.number (a / 16)) refl h (λ k. page_found qs a w k)
   where
     by : (t : Bool) → eqb q.number (a / 16) ≡ t → (if t then word q.words (a % 16) else in_pages qs a) ≡ Some w →
@@ -47,7 +47,7 @@ page_found (q ∷ qs) a w h = by (eqb q.number (a / 16)) refl h (λ k. page_foun
 pub region_found : (gs : List Region) (r : Ref) (w : Cell) → in_regions gs r ≡ Some w →
     (g : Region) × Memᴰ g gs × (g.stamp ≡ r.stamp) × (in_pages g.pages r.address ≡ Some w)
 unfolding in_regions
-region_found [] r w h = absurd (None-ne-Some w h)
+region_found [] r w h = absurd (none_ne_some w h)
 region_found (g ∷ gs) r w h = by (eqb g.stamp r.stamp) refl h (λ k. region_found gs r w k)
   where
     by : (t : Bool) → eqb g.stamp r.stamp ≡ t → (if t then in_pages g.pages r.address else in_regions gs r) ≡ Some w →
@@ -125,7 +125,7 @@ same_ref q r = by (eqb q.stamp r.stamp) (eqb q.address r.address) refl refl
     by false u e f = inr (λ z. eqb-false q.stamp r.stamp e (ap (λ (x : Ref). x.stamp) z))
 
 get_same : (ws : List Cell) (i : ℕ) (w old : Cell) → slice_get ws i ≡ Some old → slice_get (set ws i w) i ≡ Some w
-get_same [] i w old e = absurd (None-ne-Some old e)
+get_same [] i w old e = absurd (none_ne_some old e)
 get_same (v ∷ vs) zero w old e = refl
 get_same (v ∷ vs) (suc i) w old e = get_same vs i w old e
 
@@ -138,7 +138,7 @@ get_other (v ∷ vs) (suc i) (suc j) w n = get_other vs i j w (λ e. n (ap suc e
 
 word_same : (ws : List Cell) (i : ℕ) (w old : Cell) → word ws i ≡ Some old → word (set ws (i - 1) w) i ≡ Some w
 unfolding word
-word_same ws zero w old e = absurd (None-ne-Some old e)
+word_same ws zero w old e = absurd (none_ne_some old e)
 word_same ws (suc i) w old e = let z : suc i - 1 ≡ i = omega arith in rw z (get_same ws i w old e)
 
 word_other : (ws : List Cell) (i j : ℕ) (w : Cell) → 1 ≤ i → j ≢ i → word (set ws (i - 1) w) j ≡ word ws j
@@ -204,7 +204,7 @@ lists_set r w p g = by (eqb g.stamp r.stamp)
 module _ (r : Ref) (w : Cell) where
   pages_same : (ps : List Page) (old : Cell) → in_pages ps r.address ≡ Some old → in_pages (map (set_page r w) ps) r.address ≡ Some w
   unfolding in_pages set_page
-  pages_same [] old h = absurd (None-ne-Some old h)
+  pages_same [] old h = absurd (none_ne_some old h)
   pages_same (p ∷ ps) old h = by (eqb p.number (r.address / 16)) refl h (λ k. pages_same ps old k)
     where
       by : (t : Bool) → eqb p.number (r.address / 16) ≡ t → (if t then word p.words (r.address % 16) else in_pages ps r.address) ≡ Some old →
@@ -214,7 +214,7 @@ module _ (r : Ref) (w : Cell) where
 
   pub regions_same : (gs : List Region) (old : Cell) → in_regions gs r ≡ Some old → in_regions (map (set_region r w) gs) r ≡ Some w
   unfolding in_regions set_region
-  regions_same [] old h = absurd (None-ne-Some old h)
+  regions_same [] old h = absurd (none_ne_some old h)
   regions_same (g ∷ gs) old h = by (eqb g.stamp r.stamp) refl h (λ k. regions_same gs old k)
     where
       by : (t : Bool) → eqb g.stamp r.stamp ≡ t → (if t then in_pages g.pages r.address else in_regions gs r) ≡ Some old →

@@ -5,7 +5,7 @@ use mathlib.Core.Bool.{Bool, true, false}
 use mathlib.Core.Logic.{◌⊎◌, inl, inr}
 use mathlib.Core.List.Memᴰ
 use mathlib.Core.List.{List, [], ◌∷◌, Memᴰ}
-use Rattle.laws.proofs.Options.{None-ne-Some}
+use Rattle.laws.proofs.Options.{none_ne_some}
 use Prim.Native.Nat.{ℕ, ◌^◌, ◌≤◌, ◌<◌}
 use native.Mathlib.Omega.{arith}
 use lib.Dec.{leb}
@@ -33,7 +33,7 @@ bare_ok l next =
       registers_name = each_replicate (RegisterNames bare) 32 Reg.Empty tt;
       regions = tt;
       in_order = tt;
-      cells_name = λ r w h. absurd (None-ne-Some w h);
+      cells_name = λ r w h. absurd (none_ne_some w h);
     }
 
 pub opening_sound : (l : Limits) (stamp : ℕ) → LimitsOk l → 1 ≤ stamp → stamp < 2 ^ 32 → Sound (opening l stamp)

@@ -6,7 +6,7 @@ use mathlib.Core.List.{List, [], ◌∷◌, ◌++◌, Nodup, Nodup-nil, Nodup-co
 use mathlib.Core.Logic.{◌⊎◌, inl, inr, ∥∥₁_elim}
 use mathlib.Core.HLevel.{⊥_prop}
 use Rattle.std.specs.Prelude.{Option, Some, None}
-use Rattle.laws.proofs.Options.{None-ne-Some, Some-injective}
+use Rattle.laws.proofs.Options.{none_ne_some, some_injective}
 use Prim.Native.Nat.{ℕ, zero, suc, ◌+◌, ◌*◌, ◌≤◌, ◌<◌}
 use native.Mathlib.Omega.{arith}
 use native.Mathlib.Nat.{add-zero, add_assoc}
@@ -31,7 +31,7 @@ Ends ws =
     final m (take t.lines ws) ≡ machine_of m.limits c base (m.next + t.regions)
 
 longer_some : (n : ℕ) (o : Option Stretch) (t : Stretch) → longer n o ≡ Some t → (u : Stretch) × (o ≡ Some u) × (record { lines = suc u.lines; regions = n + u.regions } ≡ t)
-longer_some n None t e = absurd (None-ne-Some t e)
+longer_some n None t e = absurd (none_ne_some t e)
 longer_some n (Some u) t e = (u, refl, cc)
 
 further : (ws : List ℕ) → Ends ws → (m : Machine) (w n : ℕ) (above : List Copy) (c : Copy) (base : List Copy) (t : Stretch) →
@@ -53,10 +53,10 @@ stretch_step : (ws : List ℕ) → Ends ws → (m : Machine) (w : ℕ) (above : 
 unfolding onward fate final
 stretch_step ws ih m w above c base t made h hs e = further ws ih m w 1 above c base t h.0 (h.1 ∙ hs) (omega arith) e
 stretch_step ws ih m w above c base t pushed h hs e = further ws ih m w 0 (m.present ∷ above) c base t (cc) (cc) (cc (add-zero m.next)) e
-stretch_step ws ih m w [] c base t dropped h hs e = absurd (None-ne-Some t e)
+stretch_step ws ih m w [] c base t dropped h hs e = absurd (none_ne_some t e)
 stretch_step ws ih m w (x ∷ xs) c base t dropped h hs e = further ws ih m w 0 xs c base t (cc) (cc) (cc (add-zero m.next)) e
 stretch_step ws ih m w [] c base t used h hs e =
-    subst (λ (t : Stretch). final m (take t.lines (w ∷ ws)) ≡ machine_of m.limits c base (m.next + t.regions)) (Some-injective _ t e)
+    subst (λ (t : Stretch). final m (take t.lines (w ∷ ws)) ≡ machine_of m.limits c base (m.next + t.regions)) (some_injective _ t e)
     (h.3 ∙ cc (add-zero m.next))
 stretch_step ws ih m w (x ∷ xs) c base t used h hs e = further ws ih m w 0 xs c base t (cc) (cc) (cc (add-zero m.next)) e
 stretch_step ws ih m w above c base t other h hs e = further ws ih m w 0 above c base t h.0 (h.1 ∙ hs) (omega arith) e
@@ -64,7 +64,7 @@ stretch_step ws ih m w above c base t other h hs e = further ws ih m w 0 above c
 -- from a push with `above` younger choice points over its copy c: the lines up to the backtrack that uses c bring c back
 stretch_ends : (ws : List ℕ) → Ends ws
 unfolding stretch lines
-stretch_ends [] m above c base t hs e = absurd (None-ne-Some t e)
+stretch_ends [] m above c base t hs e = absurd (none_ne_some t e)
 stretch_ends (w ∷ ws) m above c base t hs e =
     stretch_step ws (stretch_ends ws) m w above c base t (event_of (decode w) (answer m w).status) (moves m (decode w)) hs e
 
@@ -74,11 +74,11 @@ stretch_ends (w ∷ ws) m above c base t hs e =
 whole_stretch : (m : Machine) (w : ℕ) (ws : List ℕ) (e : Event) (t : Stretch) → Moves e m (exec m (decode w)) → stretch_at e (lines (after m w) ws) ≡ Some t →
     move_on t.regions m ≡ final (after m w) (take t.lines ws)
 unfolding stretch_at
-whole_stretch m w ws made t h e = absurd (None-ne-Some t e)
+whole_stretch m w ws made t h e = absurd (none_ne_some t e)
 whole_stretch m w ws pushed t h e = sym (stretch_ends ws (after m w) [] m.present m.saved t (cc) e ∙ cc)
-whole_stretch m w ws dropped t h e = absurd (None-ne-Some t e)
-whole_stretch m w ws used t h e = absurd (None-ne-Some t e)
-whole_stretch m w ws other t h e = absurd (None-ne-Some t e)
+whole_stretch m w ws dropped t h e = absurd (none_ne_some t e)
+whole_stretch m w ws used t h e = absurd (none_ne_some t e)
+whole_stretch m w ws other t h e = absurd (none_ne_some t e)
 
 -- both ways of running agree: in their machines, and in the answers of the lines that stay
 abbrev Same : Machine → List Item → Machine → Type 0
@@ -166,7 +166,7 @@ zero_pages w (suc k) n =
 
 longer_none : (n : ℕ) (o : Option Stretch) → longer n o ≡ None → o ≡ None
 longer_none n None e = refl
-longer_none n (Some t) e = absurd (None-ne-Some _ (sym e))
+longer_none n (Some t) e = absurd (none_ne_some _ (sym e))
 
 -- i choice points below one that has `deep` above it
 abbrev below : ℕ → ℕ → ℕ
@@ -190,16 +190,16 @@ unused_step : (l : Line) (ls : List Line) → Unused ls → (ev : Event) (deep i
 unfolding onward fate
 unused_step l ls ih made deep i t e z = unused_on l ls ih 1 deep i t e z
 unused_step l ls ih pushed deep i t e z = unused_on l ls ih 0 (suc deep) i t e z
-unused_step l ls ih dropped zero i t e z = absurd (None-ne-Some t e)
+unused_step l ls ih dropped zero i t e z = absurd (none_ne_some t e)
 unused_step l ls ih dropped (suc deep) i t e z = unused_on l ls ih 0 deep i t e z
 unused_step l ls ih used zero i t e z =
-    subst (λ (t : Stretch). stretch i (drop t.lines (l ∷ ls)) ≡ None) (Some-injective _ t e) (longer_none 0 (stretch i ls) z)
+    subst (λ (t : Stretch). stretch i (drop t.lines (l ∷ ls)) ≡ None) (some_injective _ t e) (longer_none 0 (stretch i ls) z)
 unused_step l ls ih used (suc deep) i t e z = unused_on l ls ih 0 deep i t e z
 unused_step l ls ih other deep i t e z = unused_on l ls ih 0 deep i t e z
 
 unused : (ls : List Line) → Unused ls
 unfolding stretch
-unused [] deep i t e z = absurd (None-ne-Some t e)
+unused [] deep i t e z = absurd (none_ne_some t e)
 unused (l ∷ ls) deep i t e z = unused_step l ls (unused ls) (event l) deep i t e z
 
 -- no backtrack of the lines uses one of the n choice points
@@ -218,7 +218,7 @@ kept_step m o ls pushed h e z = (go, refl)
     go zero k = e
     go (suc i) k = longer_none 0 (stretch (suc i) ls) (z i (omega (arith, ap (λ (x : Machine). length x.saved) h)))
 kept_step m o ls dropped h e z = ((λ i k. longer_none 0 (stretch i ls) (z (suc i) (omega (arith, ap length h.2, ap (λ (x : Machine). length x.saved) h.3)))), refl)
-kept_step m o ls used h e z = absurd (None-ne-Some _ (sym (z 0 (omega (arith, ap length h.2)))))
+kept_step m o ls used h e z = absurd (none_ne_some _ (sym (z 0 (omega (arith, ap length h.2)))))
 kept_step m o ls other h e z = ((λ i k. longer_none 0 (stretch i ls) (z i (rw (← h.1) k))), refl)
 
 used_by_zero : (ev : Event) (n : ℕ) → used_by ev 0 ≡ 0 → n ≡ 0 → used_by ev n ≡ 0
@@ -227,11 +227,11 @@ used_by_zero ev n e z = rw z e
 skip_spent : (n : ℕ) (ls : List Line) (ev : Event) (t : Stretch) → stretch_at ev ls ≡ Some t →
     ((i : ℕ) → i < n → onward (fate ev i) (regions_in ev) (λ d. stretch d ls) ≡ None) → Spent n (drop t.lines ls)
 unfolding onward fate stretch_at
-skip_spent n ls made t e z = absurd (None-ne-Some t e)
+skip_spent n ls made t e z = absurd (none_ne_some t e)
 skip_spent n ls pushed t e z = λ i k. unused ls 0 i t e (longer_none 0 (stretch (suc i) ls) (z i k))
-skip_spent n ls dropped t e z = absurd (None-ne-Some t e)
-skip_spent n ls used t e z = absurd (None-ne-Some t e)
-skip_spent n ls other t e z = absurd (None-ne-Some t e)
+skip_spent n ls dropped t e z = absurd (none_ne_some t e)
+skip_spent n ls used t e z = absurd (none_ne_some t e)
+skip_spent n ls other t e z = absurd (none_ne_some t e)
 
 struck_step : (ws : List ℕ) (w : ℕ) (m : Machine) (o : Option Stretch) →
     stretch_at (event_of (decode w) (answer m w).status) (lines (after m w) ws) ≡ o →

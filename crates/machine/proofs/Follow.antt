@@ -5,7 +5,7 @@ use mathlib.Core.Path.{◌≡◌, refl, sym, ap, ◌∙◌, subst}
 use mathlib.Core.Bool.{Bool, true, false}
 use mathlib.Core.Logic.{◌⊎◌, inl, inr}
 use mathlib.Core.List.{List, [], ◌∷◌, ◌++◌, append_assoc, Memᴰ}
-use Rattle.laws.proofs.Options.{None-ne-Some, Some-injective}
+use Rattle.laws.proofs.Options.{none_ne_some, some_injective}
 use Prim.Native.Nat.{ℕ, zero, suc, ◌+◌, ◌^◌, ◌≤◌, ◌<◌}
 use native.Mathlib.Nat.{pow-le-pow_right}
 use native.Mathlib.Omega.{arith}
@@ -76,12 +76,12 @@ module _ (c : Copy) (names : (r : Ref) (w : Cell) → cell_at c r ≡ Some w →
   next : (j k : ℕ) (r s : Ref) → cell_at c r ≡ Some (Bound s) → 1 ≤ j → 1 ≤ k → ((rank s < rank r) → follow j c s ≡ follow k c s) →
       (o : Option Cell) → cell_at c s ≡ o → follow j c s ≡ follow k c s
   unfolding CellNames
-  next j k r s e x y ih None q = ends j k s None q (λ w z v. None-ne-Some w z) x y
+  next j k r s e x y ih None q = ends j k s None q (λ w z v. none_ne_some w z) x y
   next j k r s e x y ih (Some w) q = by (is_variable_lem w)
     where
       by : IsVariable w ⊎ (IsVariable w → ⊥) → follow j c s ≡ follow k c s
       by (inl v) = ih (rank_falls r s ((names r (Bound s) e).1 w q v) (small r s e))
-      by (inr n) = ends j k s (Some w) q (λ u z v. n (subst IsVariable (sym (Some-injective w u z)) v)) x y
+      by (inr n) = ends j k s (Some w) q (λ u z v. n (subst IsVariable (sym (some_injective w u z)) v)) x y
 
   first : (j k : ℕ) (r : Ref) → 1 ≤ j → 1 ≤ k → ((s : Ref) → rank s < rank r → follow j c s ≡ follow k c s) → (o : Option Cell) → cell_at c r ≡ o →
       on_cell r o (λ s. follow j c s) ≡ on_cell r o (λ s. follow k c s)

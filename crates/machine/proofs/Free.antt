@@ -5,7 +5,7 @@ use mathlib.Core.Logic.{◌⊎◌, inl, inr}
 use mathlib.Core.List.Memᴰ
 use mathlib.Core.List.{List, [], ◌∷◌, Memᴰ}
 use Rattle.std.specs.Prelude.{Some}
-use Rattle.laws.proofs.Options.{None-ne-Some, Some-injective}
+use Rattle.laws.proofs.Options.{none_ne_some, some_injective}
 use Prim.Native.Nat.{ℕ, zero, suc, ◌+◌, ◌≤◌, ◌<◌}
 use native.Mathlib.Omega.{arith}
 use Rattle.laws.specs.Base.{some_of, from}
@@ -22,8 +22,8 @@ from_in (suc k) n p m = by (Memᴰ.cases_cons m) (λ h. from_in k (suc n) p h)
     by (inr h) ih = omega (arith, ih h)
 
 lowest_in : (l : List ℕ) (p : ℕ) → lowest l ≡ Some p → Memᴰ p l
-lowest_in [] p e = absurd (None-ne-Some p e)
-lowest_in (q ∷ qs) p e = Memᴰ.head (sym (Some-injective q p e))
+lowest_in [] p e = absurd (none_ne_some p e)
+lowest_in (q ∷ qs) p e = Memᴰ.head (sym (some_injective q p e))
 
 -- the page that a step takes was held by no copy
 pub lowest_free_lem : (m : Machine) (p : ℕ) → lowest (free m) ≡ Some p → (held m p ≡ false) × PageIn m.limits p

@@ -4,7 +4,7 @@ use mathlib.Core.Bool.{true, false}
 use mathlib.Core.Logic.{◌≢◌, ◌⊎◌, inl, inr}
 use mathlib.Core.List.{List, [], Memᴰ}
 use Rattle.std.specs.Prelude.{Option, Some, None}
-use Rattle.laws.proofs.Options.{None-ne-Some}
+use Rattle.laws.proofs.Options.{none_ne_some}
 use Prim.Native.Nat.{ℕ, ◌*◌, ◌/◌, ◌%◌, ◌^◌, ◌<◌}
 use native.Mathlib.Omega.{arith}
 use lib.ListN.{get_or, replicate}
@@ -51,7 +51,7 @@ pub after : {gs : List Region} {n : ℕ} (h : Home gs n) (q : ℕ) → h.next �
 after {gs} {n} h q e = by (lies_next n None h.region.pages q h.page (subst (λ (j : Option ℕ). Lies n None h.region.pages j h.page) e h.lies))
   where
     by : (None ≡ Some q) ⊎ ((j : Option ℕ) × (r : Page) × Lies q None h.region.pages j r) → (i : Home gs q) × (i.region ≡ h.region)
-    by (inl z) = absurd (None-ne-Some q z)
+    by (inl z) = absurd (none_ne_some q z)
     by (inr r) = (record { region = h.region; among = h.among; next = r.0; page = r.1; lies = r.2 }, refl)
 
 -- the width of a machine's addresses, and the word at an address in a copy

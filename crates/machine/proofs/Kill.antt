@@ -4,7 +4,7 @@ use mathlib.Core.Path.{◌≡◌, refl, sym, ◌∙◌}
 use mathlib.Core.Bool.{Bool, true, false, not}
 use mathlib.Core.Logic.{◌≢◌, inl}
 use mathlib.Core.List.{List, [], ◌∷◌}
-use Rattle.laws.proofs.Options.{None-ne-Some}
+use Rattle.laws.proofs.Options.{none_ne_some}
 use Prim.Native.Nat.{ℕ, ◌<◌}
 use lib.Dec.{eqb}
 use borrow.Author.Tests.{ne_eqb, eqb-true, eqb-false}
@@ -60,7 +60,7 @@ module _ (c : Copy) (t : ℕ) where
   was_cell r w e = by (eqb r.stamp t) refl
     where
       by : (b : Bool) → eqb r.stamp t ≡ b → cell_at c r ≡ Some w
-      by true q = absurd (None-ne-Some w (sym (no_cell c.regions r (eqb-true r.stamp t q)) ∙ e))
+      by true q = absurd (none_ne_some w (sym (no_cell c.regions r (eqb-true r.stamp t q)) ∙ e))
       by false q = sym (same_cell c.regions r (eqb-false r.stamp t q)) ∙ e
 
   still_names : (r : Ref) → Names c r → Names killed r

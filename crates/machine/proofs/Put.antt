@@ -5,7 +5,7 @@ use mathlib.Core.Bool.{Bool, true, false, ◌||◌}
 use mathlib.Core.Logic.{◌⊎◌, inl, inr, ∥∥₁_elim}
 use mathlib.Core.HLevel.{⊥_prop}
 use mathlib.Core.List.{List, [], ◌∷◌, ◌++◌, map, Memᴰ, Nodup, Nodup-cons}
-use Rattle.laws.proofs.Options.{None-ne-Some, Some-injective}
+use Rattle.laws.proofs.Options.{none_ne_some, some_injective}
 use Prim.Native.Nat.{ℕ, zero, suc, ◌+◌, ◌*◌, ◌/◌, ◌%◌, ◌≤◌, ◌<◌}
 use native.Mathlib.Nat.{zero-add, suc-add}
 use native.Mathlib.Omega.{arith}
@@ -24,7 +24,7 @@ use Rattle.machine.proofs.Cells.{word_found, page_found}
 -- ---- words behind words
 
 at_left : (vs ws : List Cell) (i : ℕ) (w : Cell) → slice_get vs i ≡ Some w → slice_get (vs ++ ws) i ≡ Some w
-at_left [] ws i w e = absurd (None-ne-Some w e)
+at_left [] ws i w e = absurd (none_ne_some w e)
 at_left (v ∷ vs) ws zero w e = e
 at_left (v ∷ vs) ws (suc i) w e = at_left vs ws i w e
 
@@ -255,10 +255,10 @@ module _ (l : Limits) (next : ℕ) (page : Option ℕ) (ws : List Cell) (g : Reg
           at : (t : Bool) → leb (length p.words + length ws) 15 ≡ t → (o : Option ℕ) → page ≡ o → (if t then Some (put_on p qs ws) else on_new o ws (p ∷ qs)) ≡ Some u →
               Added l next page ws g u
           at true q o f h =
-              subst (Added l next page ws g) (Some-injective (put_on p qs ws) u h) (room_adds p qs (top_room l next g ok page p qs e) (leb-true (length p.words + length ws) 15 q))
-          at false q None f h = absurd (None-ne-Some u h)
+              subst (Added l next page ws g) (some_injective (put_on p qs ws) u h) (room_adds p qs (top_room l next g ok page p qs e) (leb-true (length p.words + length ws) 15 q))
+          at false q None f h = absurd (none_ne_some u h)
           at false q (Some n) f h =
               let k = fresh n f in
               let top : Page = record { number = n; words = [] } in
-              subst (Added l next page ws g) (ap (λ (ps : List Page). put_on top ps ws) e ∙ Some-injective (put_on top (p ∷ qs) ws) u h)
+              subst (Added l next page ws g) (ap (λ (ps : List Page). put_on top ps ws) e ∙ some_injective (put_on top (p ∷ qs) ws) u h)
               (room_adds top g.pages (new_room l next g ok page n f k.0 k.1) (omega (arith, term.most)))

@@ -4,7 +4,7 @@ use mathlib.Core.Logic.{◌≢◌, ◌⊎◌, inl, inr}
 use mathlib.Core.List.Memᴰ
 use mathlib.Core.List.{List, [], ◌∷◌, map, Memᴰ, Nodup, Nodup-cons}
 use Rattle.std.specs.Prelude.{Option, Some, None}
-use Rattle.laws.proofs.Options.{None-ne-Some, Some-injective}
+use Rattle.laws.proofs.Options.{none_ne_some, some_injective}
 use Prim.Native.Nat.{ℕ, suc, ◌+◌, ◌-◌, ◌*◌, ◌/◌, ◌%◌, ◌^◌, ◌≤◌, ◌<◌}
 use native.Mathlib.Omega.{arith}
 use lib.ListN.{length, get_or}
@@ -97,8 +97,8 @@ pages_same nx (p ∷ ps) (q ∷ qs) d e a b f g =
     let z : q ≡ p = head_same nx p q qs b (f p.number nx p (inl (refl, refl, refl))) in
     let e' : Nodup (Numbers (p ∷ qs)) = subst (λ (x : Page). Nodup (Numbers (x ∷ qs))) z e in
     let r : ps ≡ qs = pages_same (Some p.number) ps qs (Nodup-cons.0 d).1 (Nodup-cons.0 e').1
-    (λ x m h. first_apart p ps d x m (Some-injective p.number x.number h))
-    (λ x m h. first_apart p qs e' x m (Some-injective p.number x.number h))
+    (λ x m h. first_apart p ps d x m (some_injective p.number x.number h))
+    (λ x m h. first_apart p qs e' x m (some_injective p.number x.number h))
     (tail_within nx p ps qs d (subst (λ (x : Page). Within nx (p ∷ ps) (x ∷ qs)) z f))
     (tail_within nx p qs ps e' (subst (λ (x : Page). Within nx (x ∷ qs) (p ∷ ps)) z g)) in
     λ i. sym z i ∷ r i
@@ -198,7 +198,7 @@ same_region : (m w : Machine) (s : Sound m) (t : Sound w) → m.limits ≡ w.lim
 same_region m w s t limits c d x y same back g i =
     let h = same_stamp m w s t limits c d x y same g i in
     let r : g.pages ≡ h.0.pages = pages_same None g.pages h.0.pages (region_ok_lem m s c x g i).no_page_twice (region_ok_lem w t d y h.0 h.1).no_page_twice
-    (λ z a. None-ne-Some z.number) (λ z a. None-ne-Some z.number)
+    (λ z a. none_ne_some z.number) (λ z a. none_ne_some z.number)
     (same_lies m w s t limits c d x y same g h.0 i h.1 h.2)
     (same_lies w m t s (sym limits) d c y x back h.0 g h.1 i (sym h.2)) in
     let z : h.0 ≡ g = (λ j. record { stamp = h.2 j; pages = sym r j }) in

@@ -5,7 +5,7 @@ use mathlib.Core.Logic.{◌≢◌, ◌⊎◌, inl, inr}
 use mathlib.Core.List.Memᴰ
 use mathlib.Core.List.{List, [], ◌∷◌, ◌++◌, map, Memᴰ, Nodup, Nodup-cons}
 use Rattle.std.specs.Prelude.{Option, Some, None}
-use Rattle.laws.proofs.Options.{None-ne-Some, Some-injective}
+use Rattle.laws.proofs.Options.{none_ne_some, some_injective}
 use Prim.Native.Nat.{ℕ}
 use lib.Dec.{eqb}
 use lib.ListN.{replicate}
@@ -58,7 +58,7 @@ lies_next n nx (x ∷ xs) q p (inl h) = inl h.2
 lies_next n nx (x ∷ xs) q p (inr h) = by (lies_next n (Some x.number) xs q p h)
   where
     by : (Some x.number ≡ Some q) ⊎ ((j : Option ℕ) × (r : Page) × Lies q (Some x.number) xs j r) → (nx ≡ Some q) ⊎ ((j : Option ℕ) × (r : Page) × Lies q nx (x ∷ xs) j r)
-    by (inl e) = inr (nx, x, inl (Some-injective x.number q e, refl, refl))
+    by (inl e) = inr (nx, x, inl (some_injective x.number q e, refl, refl))
     by (inr r) = inr (r.0, r.1, inr r.2)
 
 -- ---- page n in a list of regions
@@ -184,7 +184,7 @@ split_lies n nx [] [] q p z e h = absurd h
 split_lies n nx [] (x ∷ xs) q p z e (inl h) = absurd (z h.2)
 split_lies n nx [] (x ∷ xs) q p z e (inr h) = inr h
 split_lies n nx (j ∷ js) qs q p z e (inl h) = absurd (z h.2)
-split_lies n nx (j ∷ js) qs q p z e (inr h) = split_lies n (Some j.number) js qs q p (λ i. e.0 (Some-injective j.number q i)) e.1 h
+split_lies n nx (j ∷ js) qs q p z e (inr h) = split_lies n (Some j.number) js qs q p (λ i. e.0 (some_injective j.number q i)) e.1 h
 
 same_back : (n : ℕ) (nx : Option ℕ) (ps qs : List Page) (j : Option ℕ) (p : Page) → SamePages ps qs → Lies n nx qs j p → (r : Page) × Lies n nx ps j r
 unfolding Lies SamePages
@@ -200,7 +200,7 @@ top_back : (n : ℕ) (ps qs : List Page) (q : ℕ) (p : Page) → TopGrown ps qs
 unfolding Lies TopGrown
 top_back n [] qs q p g h = absurd g
 top_back n (x ∷ xs) [] q p g h = absurd g
-top_back n (x ∷ xs) (y ∷ ys) q p g (inl h) = absurd (None-ne-Some q h.2)
+top_back n (x ∷ xs) (y ∷ ys) q p g (inl h) = absurd (none_ne_some q h.2)
 top_back n (x ∷ xs) (y ∷ ys) q p g (inr h) =
     let r = same_back n (Some y.number) xs ys (Some q) p g.2 h in
     (r.0, inr (subst (λ (z : ℕ). Lies n (Some z) xs (Some q) r.0) (sym g.0) r.1))
@@ -218,7 +218,7 @@ grown_back n old new q p d g h j r i =
     let t = top_lies q None old.pages g.since j r g.grown i in
     let e = not_before g.joined g.since q None t.next t.page (subst (λ (l : List Page). Nodup (map (λ (x : Page). x.number) l)) g.split d) t.lies in
     top_back n old.pages g.since q p g.grown
-    (split_lies n None g.joined g.since q p (None-ne-Some q) e (subst (λ (l : List Page). Lies n None l (Some q) p) g.split h))
+    (split_lies n None g.joined g.since q p (none_ne_some q) e (subst (λ (l : List Page). Lies n None l (Some q) p) g.split h))
 
 -- the newer copy holds page n with page q after it, and the older one holds q
 pub carry_back : (old new : Copy) → CopyGrown new old → (n q : ℕ) (h : Home new.regions n) → h.next ≡ Some q → Nodup (map (λ (x : Page). x.number) h.region.pages) →

@@ -4,7 +4,7 @@ use mathlib.Core.Path.{◌≡◌, refl, sym, ap, ◌∙◌, subst}
 use mathlib.Core.Bool.{Bool, true, false, true≢false}
 use mathlib.Core.Logic.{◌≢◌, ◌⊎◌, inl, inr}
 use mathlib.Core.List.{Memᴰ}
-use Rattle.laws.proofs.Options.{None-ne-Some, Some-injective}
+use Rattle.laws.proofs.Options.{none_ne_some, some_injective}
 use Prim.Native.Nat.{ℕ, suc, ◌-◌, ◌*◌, ◌/◌, ◌%◌, ◌^◌, ◌≤◌, ◌<◌}
 use native.Mathlib.Omega.{arith}
 use lib.Dec.{leb, eqb}
@@ -71,8 +71,8 @@ module _ (m : Machine) (s : Sound m) where
             absurd (no a w.link o)
           where
             no : Home c.regions r → {v : Option ℕ} → (v ≡ i.next) ⊎ (i.next ≡ None) → v ≡ Some q → ⊥
-            no a (inr k) o = None-ne-Some r (sym k ∙ d)
-            no a (inl k) o = z (subst (Home c.regions) (Some-injective r q (sym d ∙ sym k ∙ o)) a)
+            no a (inr k) o = none_ne_some r (sym k ∙ d)
+            no a (inl k) o = z (subst (Home c.regions) (some_injective r q (sym d ∙ sym k ∙ o)) a)
 
     -- an older copy, or b itself: its link of n has turned exactly if it holds q
     older : (c : Copy) → Memᴰ c (copies m) → CopyGrown b c → turned (link c n) ≡ filled (link c q)

@@ -1,8 +1,7 @@
 -- What the passes of an undo keep: the memory so far, and the loans.
 use mathlib.Core.Path.{◌≡◌, refl, ◌∙◌}
 use Prim.Native.Nat.{ℕ, ◌+◌, ◌<◌}
-use Rattle.laws.proofs.Turns.{turns}
-use Rattle.laws.proofs.Turns.{Ranging, ranging_starts, ranging_on}
+use Rattle.laws.proofs.Turns.{turns, Ranging, ranging_starts, ranging_on}
 use Rattle.store.specs.declared.Heap.{Heap}
 use Rattle.store.specs.Memory.{Memory, memory_of, Kept}
 

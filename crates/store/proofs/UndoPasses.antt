@@ -15,7 +15,7 @@ use Rattle.words.specs.Fields.{bits}
 use Rattle.store.specs.declared.Which.{Which}
 use Rattle.store.specs.Memory.{Memory, memory}
 use Rattle.store.specs.Undo.{struck, cell_word_after, cell_born_after, cell_turn_after, cell_after, link_word_after, link_after, link_born_after, link_turn_after, mark_after, cells_after, links_after, marks_after}
-use Rattle.store.proofs.Unturned.{if_map}
+use Rattle.laws.proofs.Conditions.{if_map}
 
 abbrev pub heap_at : Memory → ℕ → ℕ
 heap_at x a = get_or x.heap a 0

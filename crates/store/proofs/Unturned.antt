@@ -1,23 +1,19 @@
 -- What fills words reads no turned mark and writes none.
-use Rattle.std.specs.Prelude.{Option, Some, None, if◌then◌else◌}
+use Rattle.std.specs.Prelude.{Option, Some, None}
 use Prim.Native.Nat.{ℕ, ◌+◌}
-use mathlib.Core.Bool.{Bool, true, false}
 use mathlib.Core.List.{List, [], ◌∷◌}
 use mathlib.Core.Path.{◌≡◌, refl}
-use Rattle.store.specs.Pages.{on_page}
+use Rattle.laws.specs.Base.{on_some}
+use Rattle.laws.proofs.Conditions.{if_map}
 use Rattle.store.specs.Memory.{Memory, memory, fill_at, fill_all}
 use Rattle.store.specs.Make.{page_started, on_make, make_memory}
 
 abbrev pub with_turned : List ℕ → Memory → Memory
 with_turned u m = memory m.heap m.born u
 
--- a function of a choice chooses among the function's values
+-- a function of what follows from a page is what follows with the function's values
 module _ {A B : Type 0} (g : A → B) where
-  pub if_map : (b : Bool) (x y : A) → g (if b then x else y) ≡ (if b then g x else g y)
-  if_map true x y = refl
-  if_map false x y = refl
-
-  pub page_map : (k : Option ℕ) (s : ℕ → A) (n : A) → g (on_page k s n) ≡ on_page k (λ p. g (s p)) (g n)
+  pub page_map : (k : Option ℕ) (s : ℕ → A) (n : A) → g (on_some k s n) ≡ on_some k (λ p. g (s p)) (g n)
   page_map (Some p) s n = refl
   page_map None s n = refl
 

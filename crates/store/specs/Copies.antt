@@ -5,8 +5,8 @@ use Rattle.words.specs.declared.Answer.{Answer}
 use Rattle.words.specs.Answers.{plain}
 use Rattle.store.specs.declared.Which.TheVariants.{Marked, Stamped}
 use Rattle.store.specs.Memory.{Memory}
-use Rattle.store.specs.Pages.{live_page, on_page}
-use Rattle.store.specs.Rows.{present, row_copied, row_cleared, held_at, on_region}
+use Rattle.store.specs.Regions.{home_at, on_home}
+use Rattle.store.specs.Rows.{present, row_copied, row_cleared}
 use Rattle.store.specs.Undo.{undone}
 
 -- ---- push: the present copy's registers are saved, and nothing else changes. A mark has 8 bits, so there is no copy 256, whatever the limit
@@ -52,15 +52,9 @@ cut_tables t =
 
 -- ---- kill: the region in register a, if the present copy has it. The registers stay
 
--- the region of stamp s
-unfoldable pub stamp_answer : ℕ → ℕ → ℕ → Memory → Answer
-stamp_answer first pages s m = on_page (live_page first pages m.heap m.turned s) (λ p. plain 0) (plain 3)
-
-unfoldable pub stamp_killed : ℕ → ℕ → ℕ → ℕ → Memory → Memory
-stamp_killed first pages n s m = on_page (live_page first pages m.heap m.turned s) (λ p. undone first pages (Stamped s) n n m) m
-
 unfoldable pub kill_answer : ℕ → ℕ → List ℕ → ℕ → Memory → Answer
-kill_answer first pages t a m = on_region (held_at t a) (λ s. stamp_answer first pages s m) (plain 3)
+kill_answer first pages t a m = on_home (home_at first pages m.heap t m.turned a) (λ p s. plain 0) (plain 3)
 
 unfoldable pub kill_memory : ℕ → ℕ → List ℕ → ℕ → Memory → Memory
-kill_memory first pages t a m = on_region (held_at t a) (λ s. stamp_killed first pages (present t) s m) m
+kill_memory first pages t a m =
+    on_home (home_at first pages m.heap t m.turned a) (λ p s. undone first pages (Stamped s) (present t) (present t) m) m

@@ -1,11 +1,12 @@
 -- Op 1, makeregion, over the lent memory: what it answers, and the tables and the memory after it.
 use Rattle.std.specs.Prelude.{List, ℕ, ◌+◌, ◌*◌, ◌%◌, ◌^◌, leb, eqb, get_or, set, if◌then◌else◌, None}
+use Rattle.laws.specs.Base.{on_some}
 use Rattle.words.specs.declared.Register.TheVariants.{Region}
 use Rattle.words.specs.declared.Answer.{Answer}
 use Rattle.words.specs.Words.{link_word, register_word}
 use Rattle.words.specs.Answers.{plain}
 use Rattle.machine.specs.Run.{last_stamp}
-use Rattle.store.specs.Pages.{lowest_free, slot_count, on_page}
+use Rattle.store.specs.Pages.{lowest_free, slot_count}
 use Rattle.store.specs.Rows.{present, register_set}
 use Rattle.store.specs.Memory.{Memory, fill_at}
 
@@ -26,7 +27,7 @@ unfoldable pub on_make : {A : Type 0} → ℕ → ℕ → ℕ → List ℕ → L
 on_make first pages slots t h refused made =
     if eqb (next_stamp t) last_stamp then refused 7
     else if leb slots (slot_count first pages h) then refused 6
-    else on_page (lowest_free first pages h) made (refused 5)
+    else on_some (lowest_free first pages h) made (refused 5)
 
 abbrev pub stamp_given : ℕ → Answer
 stamp_given s = record { status = 0; kind = 0; pairs = 0; payload = s }

@@ -1,6 +1,7 @@
 -- What the link words of a heap tell: free pages, slots, a region's newest page and its fill, live references.
 -- The pages are those of the machine, `pages` of them from `first` on.
 use Rattle.std.specs.Prelude.{Bool, not, ◌&&◌, List, ℕ, ◌+◌, ◌*◌, ◌/◌, ◌^◌, eqb, get_or, Option, Some, None, unwrap_or, if◌then◌else◌}
+use Rattle.laws.specs.Base.{on_some}
 use Rattle.laws.specs.Loops.{seek, tally}
 use Rattle.words.specs.declared.Ref.{Ref}
 use Rattle.words.specs.Fields.{bits}
@@ -54,11 +55,6 @@ page_of h u p s = of_stamp h s p && eqb (get_or u (p * 16) 0) 0
 unfoldable pub live_ref : List ℕ → List ℕ → Ref → Bool
 live_ref h u r = page_of h u (r.address / 16) r.stamp
 
--- a page, if there is one, and what follows from it
-abbrev pub on_page : {A : Type 0} → Option ℕ → (ℕ → A) → A → A
-on_page (Some p) f z = f p
-on_page None f z = z
-
 -- the newest page of the region of a stamp, if the present copy has the region
 unfoldable pub live_page : ℕ → ℕ → List ℕ → List ℕ → ℕ → Option ℕ
-live_page first pages h u s = on_page (newest_page first pages h s) (λ p. if eqb (get_or u (p * 16) 0) 0 then Some p else None) None
+live_page first pages h u s = on_some (newest_page first pages h s) (λ p. if eqb (get_or u (p * 16) 0) 0 then Some p else None) None

@@ -37,6 +37,13 @@ pub struct View<'a> {
     pub pages: PageRange,
 }
 
+// A region by its stamp, and its newest page, where a term of it goes.
+#[derive(Clone, Copy, Debug, PartialEq, Eq)]
+pub struct NewestPage {
+    pub page: u32,
+    pub stamp: u32,
+}
+
 // The pages that an undo strikes: those of regions with this mark on their links, or those of this stamp.
 #[derive(Clone, Copy, Debug, PartialEq, Eq)]
 pub enum Which {
@@ -50,5 +57,6 @@ pub mod make;
 pub mod memory;
 pub mod pages;
 pub mod references;
+pub mod regions;
 pub mod registers;
 mod undo;

@@ -1,6 +1,6 @@
 // What the link words tell: free pages, slots, a region's newest page and its fill.
 
-ghost use Rattle.std.specs.Prelude.{◌≡◌, ◌+◌, ◌<◌, ◌≤◌, ◌^◌, IfSome, eqb, get_or};
+ghost use Rattle.std.specs.Prelude.{◌≡◌, min, ◌+◌, ◌<◌, ◌≤◌, ◌^◌, IfSome, eqb, get_or};
 ghost use Rattle.laws.specs.Loops.{seek};
 ghost use Rattle.store.specs.Pages.{has_link, lowest_free, newest_page, live_page, fill, free_count, is_last, slot_count};
 
@@ -17,6 +17,13 @@ impl PageRange {
     {
         let first = self.first as usize;
         first..first + self.count as usize
+    }
+
+    // The number of a page in 32 bits: that of each of the pages is below their end.
+    pub fn narrow(&self, p: usize) -> u32
+        ensures { result ≡ min p (self.now.first + self.now.count) }
+    {
+        p.min(self.first as usize + self.count as usize) as u32
     }
 }
 

@@ -5,17 +5,14 @@ ghost use Rattle.store.specs.Pages.{of_stamp, page_of, live_ref};
 
 use crate::View;
 use words::Ref;
-use words::heap::STAMP_AT;
-
-// tag 6, a link's, above the 32 bits of a stamp
-const LINK_TAG: u64 = 6 << 32;
+use words::heap::{LINK_TAG, STAMP_AT};
 
 impl<'a> View<'a> {
     // Is page p held by the region of this stamp? The tag and the stamp of its link are compared as one number.
     pub fn of_stamp(&self, p: usize, stamp: u32) -> bool
         ensures { result ≡ of_stamp self.now.words.now stamp p }
     {
-        self.link(p) / STAMP_AT == LINK_TAG + stamp as u64
+        self.link(p) / STAMP_AT == LINK_TAG / STAMP_AT + stamp as u64
     }
 
     // Is it, and is the region in the present copy?

@@ -173,7 +173,7 @@ impl<'a> Heap<'a> {
         put(self.turned, p * 16, undo.link_turn_after(link));
     }
 
-    // ---- the three passes, over the pages from `first` on
+    // ---- the three passes, over the pages from `first` on. Joined by a closure over the heap they would need a contract on it that is longer than the loop
 
     #[tactic(auto, unfolding(crate::specs::Undo::cells_after))]
     fn undo_cells(&mut self, undo: Undo)

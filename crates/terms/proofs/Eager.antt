@@ -29,7 +29,8 @@ use Rattle.words.specs.declared.Refusal.TheVariants as Refusals
 use Rattle.terms.specs.Deref.{on_cell, on_word, deref_in, deref_of}
 use Rattle.terms.specs.Unify.{meet_of, both_found, look_of, Marked, marked, bind_in, Item, refs, args, left_of, right_of, arg_items, took_pair, solve}
 use Rattle.terms.specs.Eager.{pair, arg_pairs, took_now, solve_now, Whole}
-use Rattle.terms.proofs.FoundWords.{if_keeps, found_says, filled_word, filled_fits}
+use Rattle.laws.proofs.Conditions.{if_keeps}
+use Rattle.terms.proofs.FoundWords.{found_says, filled_word, filled_fits}
 
 -- ---- what is found fits its word
 

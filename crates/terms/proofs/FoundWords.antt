@@ -1,7 +1,6 @@
 -- What deref finds stands in the heap: the word at the reference that it gives says the cell that it gives. So its payload has 32 bits.
-use Rattle.std.specs.Prelude.{if◌then◌else◌, Option, Some, None}
+use Rattle.std.specs.Prelude.{Option, Some, None}
 use mathlib.Core.Path.{◌≡◌, refl, subst}
-use mathlib.Core.Bool.{Bool, true, false}
 use mathlib.Core.List.{List}
 use mathlib.Core.Logic.{◌≢◌}
 use Prim.Native.Nat.{ℕ, zero, suc, ◌%◌, ◌^◌}
@@ -25,12 +24,8 @@ use Rattle.machine.specs.declared.Found.TheVariants.{Dead, At}
 use Rattle.machine.specs.Run.{payload_of}
 use Rattle.store.specs.Pages.{live_ref}
 use Rattle.store.specs.Rows.{held_at, on_term}
+use Rattle.laws.proofs.Conditions.{if_keeps}
 use Rattle.terms.specs.Deref.{on_cell, on_word, deref_in, deref_of, found_at}
-
--- what holds of both choices holds of the one that is taken
-pub if_keeps : {A : Type 0} (P : A → Type 0) (b : Bool) (x y : A) → (b ≡ true → P x) → (b ≡ false → P y) → P (if b then x else y)
-if_keeps P true x y p q = p refl
-if_keeps P false x y p q = q refl
 
 module _ (h : List ℕ) where
   abbrev Says : Ref → Cell → Type 0

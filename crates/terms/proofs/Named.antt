@@ -22,7 +22,8 @@ use Rattle.words.specs.declared.Refusal.{Refusal}
 use Rattle.words.specs.declared.Refusal.TheVariants as Refusals
 use Rattle.terms.specs.Deref.{deref_of}
 use Rattle.terms.specs.Unify.{meet_of, both_found, look_of}
-use Rattle.terms.proofs.FoundWords.{if_keeps, found_says, filled_word, filled_fits}
+use Rattle.laws.proofs.Conditions.{if_keeps}
+use Rattle.terms.proofs.FoundWords.{found_says, filled_word, filled_fits}
 
 module _ (h : List ℕ) where
   abbrev Says : Ref → Cell → Type 0

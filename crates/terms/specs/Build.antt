@@ -1,17 +1,20 @@
 -- Ops 3, 4 and 5 over the lent memory: the words of a term go into a region, and a register refers to the first of them.
-use Rattle.std.specs.Prelude.{Bool, ◌&&◌, List, [], ◌∷◌, ℕ, zero, suc, ◌+◌, ◌*◌, ◌%◌, ◌^◌, leb, ℤ, length, set, Option, Some, None, is_some, if◌then◌else◌}
+use Rattle.std.specs.Prelude.{Bool, List, [], ◌∷◌, ℕ, zero, suc, ◌+◌, ◌*◌, ◌%◌, ◌^◌, leb, ℤ, length, set, Option, Some, None, is_some, if◌then◌else◌}
+use Rattle.laws.specs.Base.{on_some}
 use Rattle.laws.specs.Loops.{all_of}
 use Rattle.words.specs.declared.Ref.{Ref}
 use Rattle.words.specs.declared.Cell.TheVariants.{Unbound, Int, Head, Argument}
 use Rattle.words.specs.declared.Register.TheVariants.{Term}
 use Rattle.words.specs.declared.Answer.{Answer}
 use Rattle.words.specs.Words.{cell_word, link_word, register_word, ref_of}
+use Rattle.words.specs.Exact.{in_range}
 use Rattle.words.specs.Answers.{plain}
-use Rattle.store.specs.Pages.{lowest_free, fill, live_page, on_page}
-use Rattle.store.specs.Rows.{present, register_at, register_set, held_at, on_region}
+use Rattle.store.specs.Pages.{lowest_free, fill}
+use Rattle.store.specs.Rows.{present, register_at, register_set}
 use Rattle.store.specs.Memory.{Memory, fill_all, next_at}
 use Rattle.store.specs.Make.{page_started}
-use Rattle.terms.specs.declared.build.NewestPage.{NewestPage}
+use Rattle.store.specs.declared.NewestPage.{NewestPage}
+use Rattle.store.specs.Regions.{home_at, on_home}
 use Rattle.terms.specs.Deref.{operand_at}
 
 -- ---- where a term goes. n is the present copy, p the newest page of the region of stamp s
@@ -24,13 +27,13 @@ page_joined n p s q m = next_at (p * 16) (link_word 12 s (Some (q % 2 ^ 16))) (p
 unfoldable pub place_of : ℕ → ℕ → ℕ → List ℕ → List ℕ → Option ℕ
 place_of first pages p ws h =
     if leb (fill h p + length ws) 15 then Some (p * 16 + fill h p + 1)
-    else on_page (lowest_free first pages h) (λ q. Some (q * 16 + 1)) None
+    else on_some (lowest_free first pages h) (λ q. Some (q * 16 + 1)) None
 
 -- the memory with the term there; without a page nothing changes
 unfoldable pub placed : ℕ → ℕ → ℕ → ℕ → ℕ → List ℕ → Memory → Memory
 placed first pages n p s ws m =
     if leb (fill m.heap p + length ws) 15 then fill_all n (p * 16 + fill m.heap p + 1) ws m
-    else on_page (lowest_free first pages m.heap) (λ q. fill_all n (q * 16 + 1) ws (page_joined n p s q m)) m
+    else on_some (lowest_free first pages m.heap) (λ q. fill_all n (q * 16 + 1) ws (page_joined n p s q m)) m
 
 -- ---- the term is placed, and register d of copy n refers to its first word
 
@@ -39,20 +42,10 @@ abbrev pub cell_of : ℕ → ℕ → Ref
 cell_of s a = record { stamp = s; address = a % 2 ^ 16 }
 
 unfoldable pub put_answer : ℕ → ℕ → ℕ → List ℕ → List ℕ → Answer
-put_answer first pages p ws h = on_page (place_of first pages p ws h) (λ a. plain 0) (plain 5)
+put_answer first pages p ws h = on_some (place_of first pages p ws h) (λ a. plain 0) (plain 5)
 
 unfoldable pub put_tables : ℕ → ℕ → ℕ → ℕ → ℕ → ℕ → List ℕ → List ℕ → List ℕ → List ℕ
-put_tables first pages n d p s ws t h = on_page (place_of first pages p ws h) (λ a. register_set t n d (register_word 12 (Term (cell_of s a)))) t
-
--- ---- the region in register a, if it is in the present copy: its newest page
-
-unfoldable pub home_at : ℕ → ℕ → List ℕ → List ℕ → List ℕ → ℕ → Option NewestPage
-home_at first pages h t u a =
-    on_region (held_at t a) (λ s. on_page (live_page first pages h u s) (λ p. Some (record { page = p; stamp = s })) None) None
-
-abbrev pub on_home : {A : Type 0} → Option NewestPage → (ℕ → ℕ → A) → A → A
-on_home (Some home) f z = f home.page home.stamp
-on_home None f z = z
+put_tables first pages n d p s ws t h = on_some (place_of first pages p ws h) (λ a. register_set t n d (register_word 12 (Term (cell_of s a)))) t
 
 -- ---- a term of these words goes into the region in register a: 3 without the region, then 4 unless the term is good, then 5 for lack of a page
 
@@ -100,13 +93,9 @@ unfoldable pub arguments_put : List ℕ → ℕ → ℕ → ℕ → List ℕ →
 arguments_put t zero b k x = x
 arguments_put t (suc n) b k x = arguments_put t n (suc b) (suc k) (set x k (argument_word t b))
 
--- an arity is at most 14, and no register is past 31
-abbrev pub is_structure : ℕ → ℕ → Bool
-is_structure n b = leb n 14 && leb (b + n) 32
-
--- 2 otherwise
+-- 2 unless the arity is at most 14 and no register is past 31
 abbrev pub on_structure : {A : Type 0} → ℕ → ℕ → A → A → A
-on_structure n b refused built = if is_structure n b then built else refused
+on_structure n b refused built = if in_range b n then built else refused
 
 unfoldable pub structure_answer : ℕ → ℕ → ℕ → ℕ → ℕ → ℕ → List ℕ → List ℕ → List ℕ → Answer
 structure_answer first pages a b f n h t u =

@@ -1,6 +1,7 @@
 -- Op 6, over the lent words: unification as a machine that works off an agenda of pairs.
 -- It goes clause by clause as `solve` does (crates/machine/specs/Unify.antt); a cell is bound by writing its word and its turned mark.
 use Rattle.std.specs.Prelude.{◌&&◌, List, [], ◌∷◌, ◌++◌, ℕ, zero, suc, ◌+◌, ◌-◌, ◌%◌, ◌^◌, eqb, get_or, set, Option, Some, None, Result, Ok, Err, if◌then◌else◌}
+use Rattle.laws.specs.Base.{on_some}
 use Rattle.words.specs.declared.Ref.{Ref}
 use Rattle.words.specs.declared.Cell.{Cell}
 use Rattle.words.specs.declared.Cell.TheVariants.{Unbound, Bound, Int, Head, Argument}
@@ -136,17 +137,13 @@ settled budget m e =
 unfoldable pub unify_terms : ℕ → ℕ → Ref → Ref → Marked → Unified
 unify_terms n budget l r m = settled budget m (solve n budget (refs l r ∷ []) m)
 
-abbrev pub on_operand : {A : Type 0} → Option Ref → (Ref → A) → A → A
-on_operand None f z = z
-on_operand (Some r) f z = f r
-
 abbrev pub on_operands : {A : Type 0} → Option (Ref × Ref) → (Ref → Ref → A) → A → A
 on_operands None f z = z
 on_operands (Some p) f z = f p.0 p.1
 
 -- both registers must hold a term of a live region
 unfoldable pub operands_at : List ℕ → List ℕ → List ℕ → ℕ → ℕ → Option (Ref × Ref)
-operands_at h t u a b = on_operand (operand_at h t u a) (λ l. on_operand (operand_at h t u b) (λ r. Some (l, r)) None) None
+operands_at h t u a b = on_some (operand_at h t u a) (λ l. on_some (operand_at h t u b) (λ r. Some (l, r)) None) None
 
 -- else the status is 4, and no pair is taken. A budget has 12 bits
 unfoldable pub unify_of : List ℕ → List ℕ → List ℕ → ℕ → ℕ → ℕ → Unified

@@ -2,22 +2,17 @@
 
 ghost use Rattle.std.specs.Prelude.{true, ◌≡◌, ◌<◌, ◌≤◌, ◌+◌, ◌^◌, length, take, is_some, IfSome};
 ghost use Rattle.words.specs.Answers.{told_done};
+ghost use Rattle.words.specs.Exact.{in_range};
 ghost use Rattle.store.specs.Memory.{memory_in, KeptFilling, fill_all};
 ghost use Rattle.store.specs.Rows.{present};
-ghost use Rattle.terms.specs.Build.{page_joined, place_of, placed, put_answer, put_tables, home_at, build_answer, build_tables, build_memory, variable_words, integer_words, arguments_live, argument_word, arguments_put, structure_words, is_structure, structure_answer, structure_tables, structure_memory};
+ghost use Rattle.terms.specs.Build.{page_joined, place_of, placed, put_answer, put_tables, build_answer, build_tables, build_memory, variable_words, integer_words, arguments_live, argument_word, arguments_put, structure_words, structure_answer, structure_tables, structure_memory};
 
 use crate::deref::live_term;
 use store::memory::put;
-use store::registers::{copy_number, held, register, set_register};
-use store::{Filling, View};
+use store::registers::{copy_number, register, set_register};
+use store::{Filling, NewestPage, View};
+use words::steps::in_range;
 use words::{Cell, Link, Ref, Refusal, Register};
-
-// Where a term of a region goes: the region's newest page.
-#[derive(Clone, Copy, Debug, PartialEq, Eq)]
-pub struct NewestPage {
-    pub page: u32,
-    pub stamp: u32,
-}
 
 // The words are filled one after another, from address `start` on.
 #[tactic(auto, using(crate::proofs::Filling::fill_turn, crate::proofs::Filling::fill_ends))]
@@ -89,21 +84,6 @@ fn put_term(
     Ok(())
 }
 
-// The region in register a, if it is in the present copy.
-#[tactic(auto, unfolding(crate::specs::Build::home_at))]
-fn home_of(heap: &Filling<'_>, tables: &[u64], a: u8) -> Option<NewestPage>
-    ensures { result ≡ home_at heap.now.pages.first heap.now.pages.count heap.now.words.now tables.now heap.now.turned.now a }
-{
-    let Some(Register::Region(stamp)) = held(tables, a) else {
-        return None;
-    };
-    let p = heap.view().live_page(stamp)?;
-    Some(NewestPage {
-        page: p as u32,
-        stamp,
-    })
-}
-
 // A term that is good goes into the region in register a.
 #[tactic(auto, unfolding(crate::specs::Build::build_answer, crate::specs::Build::build_tables, crate::specs::Build::build_memory))]
 fn build(
@@ -118,7 +98,7 @@ fn build(
     ensures memory { memory_in heap.new ≡ build_memory heap.old.pages.first heap.old.pages.count a true term.now tables.old (memory_in heap.old) }
     ensures kept { KeptFilling heap.old heap.new }
 {
-    let home = home_of(heap, tables, a).ok_or(Refusal::NoRegion)?;
+    let home = heap.view().home(tables, a).ok_or(Refusal::NoRegion)?;
     put_term(heap, tables, d, home, term)
 }
 
@@ -168,10 +148,10 @@ struct Arguments {
 impl Arguments {
     // An arity over 14 and a register past 31 are no step.
     fn of(first: u8, arity: u8) -> Option<Arguments>
-        ensures some { is_some result ≡ is_structure arity first }
+        ensures some { is_some result ≡ in_range first arity }
         ensures same { IfSome result (λ x. (x.first ≡ first) × (x.arity ≡ arity)) }
     {
-        if arity <= 14 && first as u16 + arity as u16 <= 32 {
+        if in_range(first, arity) {
             Some(Arguments { first, arity })
         } else {
             None
@@ -196,7 +176,7 @@ impl Arguments {
         }
     }
 
-    // The words of a structure of them, its head and its arguments: as many of the 15 as there are.
+    // The words of a structure of them, its head and its arguments: as many of the 15 as there are. There is no heap to put a list of them on.
     #[tactic(auto, using(crate::proofs::Arguments::structure_words_lem))]
     fn structure(self, tables: &[u64], functor: u16) -> [u64; 15]
         ensures { take (self.arity + 1) result ≡ structure_words functor self.arity self.first tables.now }
@@ -228,7 +208,7 @@ pub fn structure(
     ensures kept { KeptFilling heap.old heap.new }
 {
     let arguments = Arguments::of(b, arity).ok_or(Refusal::NoStep)?;
-    let home = home_of(heap, tables, a).ok_or(Refusal::NoRegion)?;
+    let home = heap.view().home(tables, a).ok_or(Refusal::NoRegion)?;
     if !arguments.live(&heap.view(), tables) {
         return Err(Refusal::Dead);
     }

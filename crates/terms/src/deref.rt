@@ -63,6 +63,7 @@ pub fn live_term(view: &View<'_>, tables: &[u64], i: u8) -> Option<Ref>
     }
 }
 
+// The kind of an answer, a number that callers read. It is the tag of the cell's word only where an arity fits its four bits.
 #[tactic(auto, unfolding(machine::specs::Run::kind_of, words::specs::Fit::cell_tag))]
 fn kind(c: Cell) -> u8
     ensures { result ≡ kind_of c }

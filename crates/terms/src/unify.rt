@@ -5,7 +5,6 @@ ghost use Rattle.words.specs.Words.{ref_of};
 ghost use Rattle.machine.specs.Unify.{younger};
 ghost use Rattle.store.specs.Memory.{Kept};
 ghost use Rattle.terms.specs.Unify.{meet_of, look_of, marked, refs, arg_items, unified, unify_terms, operands_at, unify_of, answer_of_attempt};
-ghost use Rattle.terms.specs.Took.{TookBy, Stays, BoundTo, entry_of, word_back, mark_back, undo_of};
 
 use crate::deref::{deref, live_term};
 use machine::Found;
@@ -54,6 +53,8 @@ struct Entry {
 }
 
 impl From<Entry> for u32 {
+    ghost use Rattle.terms.specs.Took.{entry_of};
+
     ghost from_gives = { λ e w. w ≡ entry_of e.address e.mark };
 
     fn from(e: Entry) -> u32 {
@@ -62,6 +63,8 @@ impl From<Entry> for u32 {
 }
 
 impl From<u32> for Entry {
+    ghost use Rattle.terms.specs.Took.{mark_back};
+
     ghost from_gives = { λ w e. (e.address ≡ w % 2 ^ 16) × (e.mark ≡ mark_back w) };
 
     #[tactic(auto, unfolding(crate::specs::Took::mark_back))]
@@ -73,7 +76,7 @@ impl From<u32> for Entry {
     }
 }
 
-// A unification in the present copy, n: how many entries of the trail it has used, how many pairs it may still take.
+// A unification in the present copy, n: how many entries of the trail it has used, how many pairs it may still take. The trail has room for as many more.
 #[derive(Drop)]
 struct Unifier<'a, 'h> {
     heap: &'a mut Heap<'h>,
@@ -81,6 +84,8 @@ struct Unifier<'a, 'h> {
     n: u8,
     bound: u16,
     left: u16,
+    ghost room: { bound + left ≤ 4096 },
+    ghost long: { 4096 ≤ length trail.now },
 }
 
 // Is the variable r the younger of two? The order of references is that of age.
@@ -132,6 +137,8 @@ fn both_terms(view: &View<'_>, tables: &[u64], a: u8, b: u8) -> Option<(Ref, Ref
 }
 
 impl<'a, 'h> Unifier<'a, 'h> {
+    ghost use Rattle.terms.specs.Took.{TookBy, Stays, BoundTo, word_back, mark_back, undo_of};
+
     // The left side is followed, then the right.
     #[tactic(auto, unfolding(crate::specs::Unify::look_of, crate::specs::Unify::both_found))]
     fn look(&self, l: Ref, r: Ref) -> Result<Taken, Refusal>
@@ -161,7 +168,7 @@ impl<'a, 'h> Unifier<'a, 'h> {
     // The variable at r is bound to the cell at s. The trail's entry is the variable, and the mark that it had.
     #[tactic(auto, unfolding(store::specs::Memory::turn_at))]
     fn bind(&mut self, r: Ref, s: Ref)
-        requires { self.old.bound < 4096 }
+        requires { self.old.bound + self.old.left < 4096 }
         ensures bound { BoundTo self.old.n r s self.old.bound self.old.left self.old.heap.now.words.now self.old.heap.now.turned.now self.old.trail.now
             0 self.new.bound self.new.left self.new.heap.now.words.now self.new.heap.now.turned.now self.new.trail.now }
         ensures stays { Stays self.old self.new }
@@ -185,7 +192,6 @@ impl<'a, 'h> Unifier<'a, 'h> {
     #[cycle(take_pair_walk_args)]
     #[tactic(auto, using(crate::proofs::Cycle::walk_falls))]
     fn take_pair(&mut self, l: Ref, r: Ref) -> Result<(), Refusal>
-        requires { (self.old.bound + self.old.left ≤ 4096) × (4096 ≤ length self.old.trail.now) }
         ensures took { TookBy (refs l r ∷ []) self.old result self.new }
         ensures stays { Stays self.old self.new }
     {
@@ -206,7 +212,6 @@ impl<'a, 'h> Unifier<'a, 'h> {
     // The pairs of arguments from number i on are taken, of the structures whose heads are at a and b; each has m arguments.
     #[cycle(take_pair_walk_args)]
     fn walk_args(&mut self, a: u16, b: u16, i: u8, m: u8) -> Result<(), Refusal>
-        requires { (self.old.bound + self.old.left ≤ 4096) × (4096 ≤ length self.old.trail.now) }
         ensures took { TookBy (arg_items a b i (m - i)) self.old result self.new }
         ensures stays { Stays self.old self.new }
     {
@@ -256,7 +261,7 @@ impl<'a, 'h> Unifier<'a, 'h> {
     // Two references, with nothing bound yet. Unless the outcome is Ok, no binding remains.
     #[tactic(auto, using(crate::proofs::Whole::unify_done, crate::proofs::Whole::unify_back))]
     fn unify(&mut self, l: Ref, r: Ref) -> Attempt
-        requires { (self.old.bound ≡ 0) × (self.old.left ≤ 4096) × (4096 ≤ length self.old.trail.now) }
+        requires { self.old.bound ≡ 0 }
         ensures unified { unified (answer_of_attempt result) self.new.heap.now.words.now self.new.heap.now.turned.now
             ≡ unify_terms self.old.n self.old.left l r (marked self.old.heap.now.words.now self.old.heap.now.turned.now) }
         ensures stays { Stays self.old self.new }

@@ -1,7 +1,6 @@
 pub mod Fields
 pub mod Back
 pub mod Ints
-pub mod Tests
 pub mod Unpacking
 pub mod Holding
 pub mod Rounds

@@ -17,7 +17,7 @@ use Rattle.words.specs.Fit.{RefFits, CellFits, NextFits, LinkFits, WordFits, Reg
 use Rattle.words.proofs.Fields.{bits_below}
 use Rattle.words.proofs.Unpacking.{heap_readings}
 use Rattle.laws.proofs.Lists.{each_get_or}
-use Rattle.words.proofs.Tests.{passed, passed_both}
+use Rattle.laws.proofs.Conditions.{passed, passed_both}
 use Rattle.words.proofs.Ints.{int_in}
 use Rattle.words.proofs.Back.{heap_back, register_back}
 

@@ -16,7 +16,7 @@ use Rattle.words.specs.Steps.{step_word, reading, fits, decode}
 use Rattle.words.specs.Fit.{StepFits}
 use Rattle.words.specs.Clip.{clipped_step}
 use Rattle.words.specs.Exact.{exact, exact_step, in_range}
-use Rattle.words.proofs.Tests.{if_both, if_same}
+use Rattle.laws.proofs.Conditions.{if_both, if_same}
 use Rattle.words.proofs.StepWords.{readings, reading_in}
 
 -- ---- a step that fits is packed as it is

@@ -17,7 +17,7 @@ use Rattle.words.specs.Fit.{StepFits}
 use Rattle.words.proofs.Fields.{bits_at, bits_below}
 use Rattle.words.proofs.Ints.{int_bits, int_below, int_in}
 use Rattle.laws.proofs.Lists.{each_get_or}
-use Rattle.words.proofs.Tests.{passed_both}
+use Rattle.laws.proofs.Conditions.{passed_both}
 
 -- ---- the fields that every step has
 abbrev Frame : ℕ → ℕ → ℕ → ℕ → ℕ → Type 0

@@ -12,7 +12,7 @@ use Rattle.words.specs.Fields.{bits, tag_of}
 use Rattle.words.specs.Integers.{int_of}
 use Rattle.words.specs.Words.{heap_word, ref_of, link_of, heap_reading, well_formed, unpack_heap}
 use Rattle.words.specs.Exact.{exact_word, head_of}
-use Rattle.words.proofs.Tests.{if_both, if_same}
+use Rattle.laws.proofs.Conditions.{if_both, if_same}
 
 -- ---- what a heap word says, by its tag
 

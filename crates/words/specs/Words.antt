@@ -52,9 +52,12 @@ address_of k = bits (28 - k) k
 abbrev pub ref_of : ℕ → ℕ → Ref
 ref_of k w = record { stamp = stamp_of w; address = address_of k w }
 
--- a link: with has-next set, the next page is the region's
+-- the next page that a link names: with has-next set, it is the region's
+abbrev pub next_of : ℕ → ℕ → Option ℕ
+next_of k w = if eqb (bits 27 1 w) 1 then Some (bits (31 - k) (k - 4) w) else None
+
 abbrev pub link_of : ℕ → ℕ → Link
-link_of k w = record { stamp = stamp_of w; next = if eqb (bits 27 1 w) 1 then Some (bits (31 - k) (k - 4) w) else None }
+link_of k w = record { stamp = stamp_of w; next = next_of k w }
 
 -- what the fields of a word say, by its tag
 unfoldable pub heap_reading : ℕ → ℕ → Word

@@ -2,7 +2,7 @@
 
 ghost use Rattle.std.specs.Prelude.{◌≡◌, eqb, unwrap_or};
 ghost use Rattle.words.specs.Fields.{bits};
-ghost use Rattle.words.specs.Words.{ref_bits, cell_word, heap_word, ref_of, link_of, unpack_heap};
+ghost use Rattle.words.specs.Words.{ref_bits, cell_word, heap_word, ref_of, next_of, link_of, unpack_heap};
 ghost use Rattle.words.specs.declared.Word.{Word};
 ghost use Rattle.words.specs.declared.Word.TheVariants.{Linked};
 ghost use Rattle.words.specs.Exact.{exact_word, head_of};
@@ -36,7 +36,7 @@ const HEAD_TAG: u64 = 4 * TAG_AT;
 
 const ARGUMENT_TAG: u64 = 5 * TAG_AT;
 
-const LINK_TAG: u64 = 6 * TAG_AT;
+pub const LINK_TAG: u64 = 6 * TAG_AT;
 
 pub fn tag(w: u64) -> u8
     ensures { result ≡ bits 60 4 w }
@@ -60,6 +60,17 @@ pub fn next_page(w: u64) -> u16
     ensures { result ≡ bits 19 8 w }
 {
     bits(w, 19, 8) as u16
+}
+
+// The next page that a link names, if it has one.
+pub fn next(w: u64) -> Option<u16>
+    ensures { result ≡ next_of 12 w }
+{
+    if has_next(w) {
+        Some(next_page(w))
+    } else {
+        None
+    }
 }
 
 // The reference in a word of tag 2, 5 or 8.
@@ -132,11 +143,7 @@ fn link(w: u64) -> Link
 {
     Link {
         stamp: stamp(w),
-        next: if has_next(w) {
-            Some(next_page(w))
-        } else {
-            None
-        },
+        next: next(w),
     }
 }
 

@@ -75,7 +75,7 @@ impl From<Step> for u64 {
 }
 
 // May a step have so many arguments, in the registers from the first on? An arity is 0 to 14, and no register is past 31.
-fn in_range(first: u8, arity: u8) -> bool
+pub fn in_range(first: u8, arity: u8) -> bool
     ensures { result ≡ in_range first arity }
 {
     arity <= 14 && first as u16 + arity as u16 <= 32

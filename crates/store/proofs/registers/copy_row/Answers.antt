@@ -1,6 +1,5 @@
 use Rattle.std.proofs.Common.{rules}
-use Rattle.laws.proofs.Turns.{turns}
-use Rattle.laws.proofs.Turns.{turning_on}
+use Rattle.laws.proofs.Turns.{turns, turning_on}
 use Rattle.store.proofs.registers.copy_row.Goals as goal
 
 pub loop-r-init : goal.loop-r-init
