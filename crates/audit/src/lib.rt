@@ -134,7 +134,8 @@ fn machine_ok(view: &View<'_>, tables: &[u64], slots: u16, choices: u8) -> bool
 
 #[tactic(auto, unfolding(crate::specs::Audit::sound_test))]
 pub fn sound(heap: &[u64], tables: &[u64], born: &[u8], turned: &[u8]) -> bool
-    ensures { result ≡ sound_test (lent heap.now tables.now born.now turned.now) }
+    ensures test { result ≡ sound_test (lent heap.now tables.now born.now turned.now) }
+    ensures within { result ≡ true → length heap.now ≤ 4096 }
 {
     if !lengths_ok(heap, tables, born, turned) {
         return false;

@@ -99,7 +99,8 @@ impl<'a> View<'a> {
 
     #[tactic(auto, unfolding(crate::specs::Pages::free_count))]
     pub fn free_count(&self) -> usize
-        ensures { result ≡ free_count self.now.pages.first self.now.pages.count self.now.words.now }
+        ensures count { result ≡ free_count self.now.pages.first self.now.pages.count self.now.words.now }
+        ensures most { result ≤ self.now.pages.count }
     {
         self.pages.numbers().filter(|p| self.link(*p) == 0).count()
     }

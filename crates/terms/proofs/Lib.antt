@@ -1,4 +1,4 @@
-pub mod Arguments
+pub mod ArgumentWords
 pub mod Filling
 pub mod Following
 pub mod FoundWords

@@ -1,5 +1,6 @@
 pub mod Deref
 pub mod Build
+pub mod Destruct
 pub mod Unify
 pub mod Took
 pub mod Eager

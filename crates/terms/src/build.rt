@@ -1,17 +1,14 @@
 // Ops 3, 4 and 5: the words of a term go into a region, and register d refers to the first of them.
 
-ghost use Rattle.std.specs.Prelude.{true, ◌≡◌, ◌<◌, ◌≤◌, ◌+◌, ◌^◌, length, take, is_some, IfSome};
+ghost use Rattle.std.specs.Prelude.{true, ◌≡◌, ◌<◌, ◌+◌, ◌^◌, length};
 ghost use Rattle.words.specs.Answers.{told_done};
-ghost use Rattle.words.specs.Exact.{in_range};
 ghost use Rattle.store.specs.Memory.{memory_in, KeptFilling, fill_all};
 ghost use Rattle.store.specs.Rows.{present};
-ghost use Rattle.terms.specs.Build.{page_joined, place_of, placed, put_answer, put_tables, build_answer, build_tables, build_memory, variable_words, integer_words, arguments_live, argument_word, arguments_put, structure_words, structure_answer, structure_tables, structure_memory};
+ghost use Rattle.terms.specs.Build.{page_joined, place_of, placed, put_answer, put_tables, build_answer, build_tables, build_memory, variable_words, integer_words, structure_answer, structure_tables, structure_memory};
 
-use crate::deref::live_term;
-use store::memory::put;
-use store::registers::{copy_number, register, set_register};
-use store::{Filling, NewestPage, View};
-use words::steps::in_range;
+use crate::arguments::Arguments;
+use store::registers::{copy_number, set_register};
+use store::{Filling, NewestPage};
 use words::{Cell, Link, Ref, Refusal, Register};
 
 // The words are filled one after another, from address `start` on.
@@ -126,69 +123,6 @@ pub fn integer(
     ensures kept { KeptFilling heap.old heap.new }
 {
     build(heap, tables, d, a, &[u64::from(Cell::Int(value))])
-}
-
-// The reference in register i as an argument.
-#[tactic(auto, unfolding(crate::specs::Build::argument_word))]
-fn argument(tables: &[u64], i: u8) -> u64
-    ensures { result ≡ argument_word tables.now i }
-{
-    u64::from(Cell::Argument(Ref::from(register(tables, copy_number(tables), i))))
-}
-
-// The arguments of a structure: the terms in as many registers, from register `first` on.
-#[derive(Clone, Copy)]
-struct Arguments {
-    first: u8,
-    arity: u8,
-    ghost few: { arity ≤ 14 },
-    ghost there: { first + arity ≤ 32 },
-}
-
-impl Arguments {
-    // An arity over 14 and a register past 31 are no step.
-    fn of(first: u8, arity: u8) -> Option<Arguments>
-        ensures some { is_some result ≡ in_range first arity }
-        ensures same { IfSome result (λ x. (x.first ≡ first) × (x.arity ≡ arity)) }
-    {
-        if in_range(first, arity) {
-            Some(Arguments { first, arity })
-        } else {
-            None
-        }
-    }
-
-    // Is each of them a term of a live region?
-    #[tactic(auto, unfolding(crate::specs::Build::arguments_live))]
-    fn live(self, view: &View<'_>, tables: &[u64]) -> bool
-        ensures { result ≡ arguments_live self.arity self.first view.now.words.now tables.now view.now.turned.now }
-    {
-        (self.first..self.first + self.arity).all(|i| live_term(view, tables, i).is_some())
-    }
-
-    // They go to the words from 1 on.
-    #[tactic(auto, using(crate::proofs::Arguments::put_turn, crate::proofs::Arguments::put_ends))]
-    fn put(self, tables: &[u64], term: &mut [u64])
-        ensures { term.new ≡ arguments_put tables.now self.arity self.first 1 term.old }
-    {
-        for k in 0..self.arity {
-            put(term, k as usize + 1, argument(tables, self.first + k));
-        }
-    }
-
-    // The words of a structure of them, its head and its arguments: as many of the 15 as there are. There is no heap to put a list of them on.
-    #[tactic(auto, using(crate::proofs::Arguments::structure_words_lem))]
-    fn structure(self, tables: &[u64], functor: u16) -> [u64; 15]
-        ensures { take (self.arity + 1) result ≡ structure_words functor self.arity self.first tables.now }
-    {
-        let mut term = [0; 15];
-        term[0] = u64::from(Cell::Head {
-            functor,
-            arity: self.arity,
-        });
-        self.put(tables, &mut term);
-        term
-    }
 }
 
 // Op 5. An arity over 14 and a register past 31 are no step.

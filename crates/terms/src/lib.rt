@@ -2,6 +2,8 @@
 
 #![tactic(auto)]
 
+mod arguments;
 pub mod build;
 pub mod deref;
+pub mod destruct;
 pub mod unify;
