@@ -78,15 +78,16 @@ impl<'a> Session<'a> {
         since.max(self.view.link_born(p))
     }
 
+    // Most pages of a scan are not of the stamp: that is asked first, and their marks are not read.
     #[tactic(auto, unfolding(crate::specs::Live::seen_at))]
     fn seen_at(&self, stamp: u32, range: CopyRange, bound: u16, p: usize) -> bool
         ensures { result ≡ seen_at (session_of self.now) stamp range bound p }
     {
+        if !self.view.of_stamp(p, stamp) {
+            return false;
+        }
         let c = self.since_at(range.since, p);
-        self.view.of_stamp(p, stamp)
-            && (c as u16) < bound
-            && c <= range.upto
-            && c <= self.newest_copy(p)
+        (c as u16) < bound && c <= range.upto && c <= self.newest_copy(p)
     }
 
     #[tactic(auto, unfolding(crate::specs::Live::seen_before))]

@@ -27,6 +27,15 @@ module _ (t : ℕ → Bool) (k : ℕ) where
             first = λ i l m. ⊎_elim (λ z. rw (← z) h) (λ p. f.first i (omega arith) m) (eq-or-lt_of_le l);
           }
 
+-- where nothing is found, each number of the range fails the test
+pub missed : (t : ℕ → Bool) (n start : ℕ) → seek t n start ≡ None → (i : ℕ) → start ≤ i → i < start + n → t i ≡ false
+missed t zero start e i l m = absurd (omega arith)
+missed t (suc n) start e i l m = go (t start) refl (missed t n (start + 1)) e
+  where
+    go : (b : Bool) → t start ≡ b → (seek t n (start + 1) ≡ None → (i : ℕ) → start + 1 ≤ i → i < start + 1 + n → t i ≡ false) → cond b (Some start) (seek t n (start + 1)) ≡ None → t i ≡ false
+    go true h r q = absurd cc
+    go false h r q = ⊎_elim (λ z. rw (← z) h) (λ p. r q i (omega arith) (omega arith)) (eq-or-lt_of_le l)
+
 -- the same of what a loop answered
 pub found_below : (t : ℕ → Bool) (n start : ℕ) (r : Option ℕ) → r ≡ seek t n start → IfSome r (λ p. p < start + n)
 found_below t n start None e = tt

@@ -1,6 +1,6 @@
 // What the link words tell: free pages, slots, a region's newest page and its fill.
 
-ghost use Rattle.std.specs.Prelude.{◌≡◌, min, ◌+◌, ◌<◌, ◌≤◌, ◌^◌, IfSome, eqb, get_or};
+ghost use Rattle.std.specs.Prelude.{◌≡◌, min, ◌*◌, ◌+◌, ◌<◌, ◌≤◌, IfSome, eqb, get_or};
 ghost use Rattle.laws.specs.Loops.{seek};
 ghost use Rattle.store.specs.Pages.{has_link, lowest_free, newest_page, live_page, fill, free_count, is_last, slot_count};
 
@@ -75,14 +75,25 @@ impl<'a> View<'a> {
         }
     }
 
-    // The first of `count` words from address `start` on that is empty.
+    // Cell i of page p, from 0 on. A page past the end has none, and for it p * 16 might not fit a usize.
+    #[tactic(auto, using(crate::proofs::Links::no_cell))]
+    fn cell(&self, p: usize, i: u8) -> u64
+        ensures { result ≡ get_or self.now.words.now (p * 16 + 1 + i) 0 }
+    {
+        if p <= self.words.len() / 16 {
+            self.word(p * 16 + 1 + i as usize)
+        } else {
+            0
+        }
+    }
+
+    // The first of the first `count` cells of page p that is empty.
     #[tactic(auto, using(laws::proofs::Scan::found_below))]
-    fn first_empty(&self, start: usize, count: usize) -> Option<usize>
-        requires { start + count < 2 ^ 64 }
-        ensures found { result ≡ seek (λ i. eqb (get_or self.now.words.now (start + i) 0) 0) count 0 }
+    fn first_empty(&self, p: usize, count: u8) -> Option<u8>
+        ensures found { result ≡ seek (λ i. eqb (get_or self.now.words.now (p * 16 + 1 + i) 0) 0) count 0 }
         ensures below { IfSome result (λ i. i < count) }
     {
-        (0..count).find(|i| self.word(start + *i) == 0)
+        (0..count).find(|i| self.cell(p, *i) == 0)
     }
 
     // How many words of page p are filled, from word 1 on.
@@ -94,7 +105,7 @@ impl<'a> View<'a> {
         if self.words.len() / 16 < p {
             return 0;
         }
-        self.first_empty(p * 16 + 1, 15).unwrap_or(15)
+        self.first_empty(p, 15).unwrap_or(15) as usize
     }
 
     #[tactic(auto, unfolding(crate::specs::Pages::free_count))]

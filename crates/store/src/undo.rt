@@ -150,27 +150,27 @@ impl<'a> Heap<'a> {
 
     // The link word of page p.
     #[tactic(auto, unfolding(crate::specs::Undo::link_after))]
-    fn undo_link(&mut self, undo: Undo, p: usize)
-        requires { p < 2 ^ 32 }
+    fn undo_link(&mut self, undo: Undo, p: u32)
         ensures memory { memory_of self.new ≡ after.link_after undo.which undo.j p (memory_of self.old) }
         ensures kept { Kept self.old self.new }
     {
+        let a = p as usize * 16;
         let view = self.view();
-        let link = view.marked(p * 16);
+        let link = view.marked(a);
         let next = view.born(next_page(link.word) as usize * 16);
-        put(self.words, p * 16, undo.link_word_after(link, next));
+        put(self.words, a, undo.link_word_after(link, next));
     }
 
     // The marks of page p's link, by the word that it has now.
     #[tactic(auto, unfolding(crate::specs::Undo::mark_after))]
-    fn undo_mark(&mut self, undo: Undo, p: usize)
-        requires { p < 2 ^ 32 }
+    fn undo_mark(&mut self, undo: Undo, p: u32)
         ensures memory { memory_of self.new ≡ after.mark_after undo.which undo.j undo.last p (memory_of self.old) }
         ensures kept { Kept self.old self.new }
     {
-        let link = self.view().marked(p * 16);
-        put(self.born, p * 16, undo.link_born_after(link));
-        put(self.turned, p * 16, undo.link_turn_after(link));
+        let a = p as usize * 16;
+        let link = self.view().marked(a);
+        put(self.born, a, undo.link_born_after(link));
+        put(self.turned, a, undo.link_turn_after(link));
     }
 
     // ---- the three passes, over the pages from `first` on. Joined by a closure over the heap they would need a contract on it that is longer than the loop
@@ -191,8 +191,8 @@ impl<'a> Heap<'a> {
         ensures memory { memory_of self.new ≡ after.links_after self.old.pages.first self.old.pages.count undo.which undo.j (memory_of self.old) }
         ensures kept { Kept self.old self.new }
     {
-        let first = self.pages.first as usize;
-        for p in first..first + self.pages.count as usize {
+        let first = self.pages.first as u32;
+        for p in first..first + self.pages.count as u32 {
             self.undo_link(undo, p);
         }
     }
@@ -202,8 +202,8 @@ impl<'a> Heap<'a> {
         ensures memory { memory_of self.new ≡ after.marks_after self.old.pages.first self.old.pages.count undo.which undo.j undo.last (memory_of self.old) }
         ensures kept { Kept self.old self.new }
     {
-        let first = self.pages.first as usize;
-        for p in first..first + self.pages.count as usize {
+        let first = self.pages.first as u32;
+        for p in first..first + self.pages.count as u32 {
             self.undo_mark(undo, p);
         }
     }

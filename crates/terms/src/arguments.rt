@@ -1,6 +1,8 @@
 // The registers that hold the arguments of a structure: building one reads them, destruct writes them.
 
-ghost use Rattle.std.specs.Prelude.{◌≡◌, ◌≤◌, ◌+◌, take, is_some, IfSome};
+ghost use Rattle.std.specs.Prelude.{◌≡◌, ◌≤◌, ◌+◌, set, replicate, take, is_some, IfSome};
+ghost use Rattle.words.specs.declared.Cell.TheVariants.{Head};
+ghost use Rattle.words.specs.Words.{cell_word};
 ghost use Rattle.words.specs.Exact.{in_range};
 ghost use Rattle.store.specs.Rows.{present};
 ghost use Rattle.terms.specs.Build.{arguments_live, argument_word, arguments_put, structure_words};
@@ -61,10 +63,11 @@ impl Arguments {
         }
     }
 
-    // The words of a structure of them, its head and its arguments: as many of the 15 as there are. There is no heap to put a list of them on.
+    // The words of a structure of them, its head and its arguments, in the first of 15, and zeros after them. There is no heap to put a list of them on.
     #[tactic(auto, using(crate::proofs::ArgumentWords::structure_words_lem))]
     pub fn structure(self, tables: &[u64], functor: u16) -> [u64; 15]
-        ensures { take (self.arity + 1) result ≡ structure_words functor self.arity self.first tables.now }
+        ensures words { take (self.arity + 1) result ≡ structure_words functor self.arity self.first tables.now }
+        ensures all { result ≡ arguments_put tables.now self.arity self.first 1 (set (replicate 15 0) 0 (cell_word 12 (Head functor self.arity))) }
     {
         let mut term = [0; 15];
         term[0] = u64::from(Cell::Head {

@@ -1,6 +1,6 @@
 // Ops 3, 4 and 5: the words of a term go into a region, and register d refers to the first of them.
 
-ghost use Rattle.std.specs.Prelude.{true, ◌≡◌, ◌<◌, ◌+◌, ◌^◌, length};
+ghost use Rattle.std.specs.Prelude.{true, ◌≡◌, ◌+◌, ◌*◌};
 ghost use Rattle.words.specs.Answers.{told_done};
 ghost use Rattle.store.specs.Memory.{memory_in, KeptFilling, fill_all};
 ghost use Rattle.store.specs.Rows.{present};
@@ -11,13 +11,13 @@ use store::registers::{copy_number, set_register};
 use store::{Filling, NewestPage};
 use words::{Cell, Link, Ref, Refusal, Register};
 
-// The words are filled one after another, from address `start` on.
+// The words go to page p, one after another from the word after the last filled one on.
 #[tactic(auto, using(crate::proofs::Filling::fill_turn, crate::proofs::Filling::fill_ends))]
-fn fill_all(heap: &mut Filling<'_>, n: u8, start: usize, term: &[u64])
-    requires { start + length term.now < 2 ^ 64 }
-    ensures memory { memory_in heap.new ≡ fill_all n start term.now (memory_in heap.old) }
+fn fill_all(heap: &mut Filling<'_>, n: u8, p: u32, filled: u8, term: &[u64])
+    ensures memory { memory_in heap.new ≡ fill_all n (p * 16 + filled + 1) term.now (memory_in heap.old) }
     ensures kept { KeptFilling heap.old heap.new }
 {
+    let start = p as usize * 16 + filled as usize + 1;
     for (i, w) in term.iter().enumerate() {
         heap.fill_at(n, start + i, *w);
     }
@@ -47,13 +47,12 @@ pub fn place(heap: &mut Filling<'_>, n: u8, home: NewestPage, term: &[u64]) -> O
 {
     let filled = heap.view().fill(home.page as usize);
     if filled + term.len() <= 15 {
-        let start = home.page as usize * 16 + filled + 1;
-        fill_all(heap, n, start, term);
-        return Some(start);
+        fill_all(heap, n, home.page, filled as u8, term);
+        return Some(home.page as usize * 16 + filled + 1);
     }
     let q = heap.view().lowest_free()?;
     join_page(heap, n, home, q as u32);
-    fill_all(heap, n, q * 16 + 1, term);
+    fill_all(heap, n, q as u32, 0, term);
     Some(q * 16 + 1)
 }
 

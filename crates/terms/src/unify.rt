@@ -165,27 +165,22 @@ impl<'a, 'h> Unifier<'a, 'h> {
         Ref::from(self.heap.view().word(a as usize + (k as usize + 1)))
     }
 
-    // The variable at r is bound to the cell at s. The trail's entry is the variable, and the mark that it had.
+    // The variable at r is bound to the cell at s in the present copy, n. Entry k of the trail is the variable, and the mark that it had; the next is the answer.
     #[tactic(auto, unfolding(store::specs::Memory::turn_at))]
-    fn bind(&mut self, r: Ref, s: Ref)
-        requires { self.old.bound + self.old.left < 4096 }
-        ensures bound { BoundTo self.old.n r s self.old.bound self.old.left self.old.heap.now.words.now self.old.heap.now.turned.now self.old.trail.now
-            0 self.new.bound self.new.left self.new.heap.now.words.now self.new.heap.now.turned.now self.new.trail.now }
-        ensures stays { Stays self.old self.new }
+    fn bind(heap: &mut Heap<'_>, trail: &mut [u32], n: u8, k: u16, r: Ref, s: Ref) -> u16
+        ensures bound { BoundTo n r s k 0 heap.old.words.now heap.old.turned.now trail.old 0 result 0 heap.new.words.now heap.new.turned.now trail.new }
+        ensures born { heap.new.born.now ≡ heap.old.born.now }
+        ensures kept { Kept heap.old heap.new }
     {
         let a = r.address as usize;
-        let (n, k) = (self.n, self.bound as usize);
-        let mark = self.heap.view().turned(a);
-        put(
-            self.trail,
-            k,
-            u32::from(Entry {
-                address: r.address,
-                mark,
-            }),
-        );
-        self.heap.turn_at(n, a, u64::from(Cell::Bound(s)));
-        self.bound += 1;
+        let mark = heap.view().turned(a);
+        let entry = Entry {
+            address: r.address,
+            mark,
+        };
+        put(trail, k as usize, u32::from(entry));
+        heap.turn_at(n, a, u64::from(Cell::Bound(s)));
+        k.wrapping_add(1)
     }
 
     // One pair is taken: if the budget's number has been taken already, it stops with 10; else the pair is counted.
@@ -202,7 +197,7 @@ impl<'a, 'h> Unifier<'a, 'h> {
         match self.look(l, r)? {
             Taken::Same => Ok(()),
             Taken::Bind(s, t) => {
-                self.bind(s, t);
+                self.bound = Self::bind(self.heap, self.trail, self.n, self.bound, s, t);
                 Ok(())
             }
             Taken::Arguments(a, b, m) => self.walk_args(a, b, 0, m),
@@ -257,23 +252,38 @@ impl<'a, 'h> Unifier<'a, 'h> {
             self.undo_entry(k);
         }
     }
+}
 
-    // Two references, with nothing bound yet. Unless the outcome is Ok, no binding remains.
-    #[tactic(auto, using(crate::proofs::Whole::unify_done, crate::proofs::Whole::unify_back))]
-    fn unify(&mut self, l: Ref, r: Ref) -> Attempt
-        requires { self.old.bound ≡ 0 }
-        ensures unified { unified (answer_of_attempt result) self.new.heap.now.words.now self.new.heap.now.turned.now
-            ≡ unify_terms self.old.n self.old.left l r (marked self.old.heap.now.words.now self.old.heap.now.turned.now) }
-        ensures stays { Stays self.old self.new }
-    {
-        let most = self.left;
-        let outcome = self.take_pair(l, r);
-        let pairs = most - self.left;
-        if outcome.is_err() {
-            self.undo();
-        }
-        Attempt { pairs, outcome }
+// Two references. Unless the outcome is Ok, no binding remains.
+#[tactic(auto, using(crate::proofs::Whole::unify_done, crate::proofs::Whole::unify_back))]
+fn unify_terms(
+    heap: &mut Heap<'_>,
+    trail: &mut [u32],
+    n: u8,
+    l: Ref,
+    r: Ref,
+    budget: u16,
+) -> Attempt
+    requires { 4096 ≤ length trail.old }
+    ensures unified { unified (answer_of_attempt result) heap.new.words.now heap.new.turned.now
+        ≡ unify_terms n (budget % 2 ^ 12) l r (marked heap.old.words.now heap.old.turned.now) }
+    ensures born { heap.new.born.now ≡ heap.old.born.now }
+    ensures kept { Kept heap.old heap.new }
+{
+    let most = budget % 4096;
+    let mut unifier = Unifier {
+        heap,
+        trail,
+        n,
+        bound: 0,
+        left: most,
+    };
+    let outcome = unifier.take_pair(l, r);
+    let pairs = most - unifier.left;
+    if outcome.is_err() {
+        unifier.undo();
     }
+    Attempt { pairs, outcome }
 }
 
 // Op 6. The trail is scratch: it has room for an entry for each pair, and what it holds afterwards is not told. Unless the outcome is Ok, no binding remains.
@@ -298,12 +308,5 @@ pub fn unify(
             outcome: Err(Refusal::Dead),
         };
     };
-    let mut unifier = Unifier {
-        heap,
-        trail,
-        n: copy_number(tables),
-        bound: 0,
-        left: budget % 4096,
-    };
-    unifier.unify(l, r)
+    unify_terms(heap, trail, copy_number(tables), l, r, budget)
 }

@@ -1,5 +1,5 @@
 -- A step that fits is packed as it is; the step that a word says, by its op.
-use Rattle.std.specs.Prelude.{if◌then◌else◌, Option, unwrap_or}
+use Rattle.std.specs.Prelude.{if◌then◌else◌, Option, Some, None, unwrap_or}
 use mathlib.Core.Path.{◌≡◌, refl, sym, ap, ◌∙◌}
 use mathlib.Core.Logic.{◌⊎◌, inl, inr, ⊎_elim}
 use Prim.Native.Nat.{ℕ, zero, suc, ◌<◌}
@@ -15,8 +15,8 @@ use Rattle.words.specs.Integers.{int_of}
 use Rattle.words.specs.Steps.{step_word, reading, fits, decode}
 use Rattle.words.specs.Fit.{StepFits}
 use Rattle.words.specs.Clip.{clipped_step}
-use Rattle.words.specs.Exact.{exact, exact_step, in_range}
-use Rattle.laws.proofs.Conditions.{if_both, if_same}
+use Rattle.words.specs.Exact.{exact, exact_step, in_range, accepted}
+use Rattle.laws.proofs.Conditions.{if_both, if_same, if_map}
 use Rattle.words.proofs.StepWords.{readings, reading_in}
 
 -- ---- a step that fits is packed as it is
@@ -53,6 +53,17 @@ decode_is w s e =
 pub told_whole : (w v : ℕ) (s : Step) (h : Option Step) → v ≡ step_word (clipped_step s) → h ≡ exact v w s → unwrap_or h Refused ≡ exact_step w s
 unfolding exact_step
 told_whole w v s h e q = grind arith
+
+-- ---- None stands for the refused step alone
+
+pub accepted_back : (s : Step) → unwrap_or (accepted s) Refused ≡ s
+accepted_back Refused = refl
+accepted_back s = refl
+
+-- what packs to the word is accepted
+pub accepted_whole : (w v : ℕ) (s : Step) (h : Option Step) → v ≡ step_word (clipped_step s) → h ≡ exact v w s → accepted s ≡ Some s → h ≡ accepted (exact_step w s)
+unfolding exact_step
+accepted_whole w v s h e q k = q ∙ rw (e, ← k) (sym (if_map accepted (eqb (step_word (clipped_step s)) w) s Refused))
 
 -- the step that a word says, by its op t
 abbrev pub decoded_by : ℕ → ℕ → Step
@@ -107,3 +118,6 @@ no_op w t e o = sym (by_op w ∙ rw (← e) (go o))
     go : (t ≡ 0) ⊎ (11 < t) → decoded_by t w ≡ Refused
     go (inl z) = rw z
     go (inr l) = rw (ne_eqb t 1 (omega arith), ne_eqb t 2 (omega arith), ne_eqb t 3 (omega arith), ne_eqb t 4 (omega arith), ne_eqb t 5 (omega arith), ne_eqb t 6 (omega arith), ne_eqb t 7 (omega arith), ne_eqb t 8 (omega arith), ne_eqb t 9 (omega arith), ne_eqb t 10 (omega arith), ne_eqb t 11 (omega arith))
+
+pub none_accepted : (w t : ℕ) → t ≡ bits 60 4 w → (t ≡ 0) ⊎ (11 < t) → None ≡ accepted (decode w)
+none_accepted w t e o = ap accepted (no_op w t e o)

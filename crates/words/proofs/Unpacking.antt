@@ -1,6 +1,6 @@
 -- What a heap word says, by its tag, as the code's match has it; tags 7 to 15 say nothing.
-use Rattle.std.specs.Prelude.{if◌then◌else◌}
-use mathlib.Core.Path.{◌≡◌, refl, sym, ◌∙◌}
+use Rattle.std.specs.Prelude.{if◌then◌else◌, Option, Some, None, unwrap_or}
+use mathlib.Core.Path.{◌≡◌, refl, sym, ap, ◌∙◌}
 use mathlib.Core.List.{List, [], ◌∷◌}
 use Prim.Native.Nat.{ℕ, zero, suc, ◌<◌}
 use lib.Dec.{eqb}
@@ -11,8 +11,19 @@ use Rattle.words.specs.declared.Word.{Word}
 use Rattle.words.specs.Fields.{bits, tag_of}
 use Rattle.words.specs.Integers.{int_of}
 use Rattle.words.specs.Words.{heap_word, ref_of, link_of, heap_reading, well_formed, unpack_heap}
-use Rattle.words.specs.Exact.{exact_word, head_of}
-use Rattle.laws.proofs.Conditions.{if_both, if_same}
+use Rattle.words.specs.Exact.{exact, exact_word, head_of, unbroken}
+use Rattle.laws.proofs.Conditions.{if_both, if_same, if_map}
+
+-- ---- None stands for the broken word alone
+
+pub unbroken_back : (x : Word) → unwrap_or (unbroken x) Word.Broken ≡ x
+unbroken_back Word.Broken = refl
+unbroken_back x = refl
+
+-- what packs to the word is what it says, and else it is broken
+pub told_whole : (w v : ℕ) (x : Word) (h : Option Word) → v ≡ heap_word 12 x → h ≡ exact v w x → unbroken x ≡ Some x → h ≡ unbroken (exact_word 12 w x)
+unfolding exact_word
+told_whole w v x h e q s = q ∙ rw (e, ← s) (sym (if_map unbroken (eqb (heap_word 12 x) w) x Word.Broken))
 
 -- ---- what a heap word says, by its tag
 
@@ -65,3 +76,6 @@ by_tag w = go (tag_of w) refl
 pub no_tag : (w t : ℕ) → t ≡ tag_of w → 6 < t → Word.Broken ≡ unpack_heap 12 w
 no_tag w t e l =
     sym (by_tag w ∙ rw (← e, ne_eqb t 0 (omega arith), ne_eqb t 1 (omega arith), ne_eqb t 2 (omega arith), ne_eqb t 3 (omega arith), ne_eqb t 4 (omega arith), ne_eqb t 5 (omega arith), ne_eqb t 6 (omega arith)))
+
+pub none_said : (w t : ℕ) → t ≡ tag_of w → 6 < t → None ≡ unbroken (unpack_heap 12 w)
+none_said w t e l = ap unbroken (no_tag w t e l)

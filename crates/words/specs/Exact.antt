@@ -16,6 +16,15 @@ exact v w x = if eqb v w then Some x else None
 unfoldable pub exact_word : ℕ → ℕ → Word → Word
 exact_word k w x = if eqb (heap_word k x) w then x else Word.Broken
 
+-- a heap word unless it is broken, a step unless it is refused
+abbrev pub unbroken : Word → Option Word
+unbroken Word.Broken = None
+unbroken x = Some x
+
+abbrev pub accepted : Step → Option Step
+accepted Refused = None
+accepted s = Some s
+
 unfoldable pub exact_step : ℕ → Step → Step
 exact_step w s = if eqb (step_word (clipped_step s)) w then s else Refused
 

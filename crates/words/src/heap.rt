@@ -1,11 +1,11 @@
 // The words of the heap: a tag of 4 bits, then its fields. Each field is read by its place and its width.
 
-ghost use Rattle.std.specs.Prelude.{◌≡◌, eqb, unwrap_or};
+ghost use Rattle.std.specs.Prelude.{◌≡◌, eqb};
 ghost use Rattle.words.specs.Fields.{bits};
 ghost use Rattle.words.specs.Words.{ref_bits, cell_word, heap_word, ref_of, next_of, link_of, unpack_heap};
 ghost use Rattle.words.specs.declared.Word.{Word};
 ghost use Rattle.words.specs.declared.Word.TheVariants.{Linked};
-ghost use Rattle.words.specs.Exact.{exact_word, head_of};
+ghost use Rattle.words.specs.Exact.{exact_word, head_of, unbroken};
 
 use crate::parts::{bits, exactly, integer};
 use crate::{Cell, Link, Ref, Word};
@@ -148,9 +148,9 @@ fn link(w: u64) -> Link
 }
 
 // A structure's head, if its arity is 0 to 14.
-#[tactic(auto, unfolding(crate::specs::Exact::exact_word, crate::specs::Exact::head_of))]
+#[tactic(auto, using(crate::proofs::Unpacking::told_whole), unfolding(crate::specs::Exact::head_of))]
 fn head(w: u64) -> Option<Word>
-    ensures { unwrap_or result Word.Broken ≡ head_of 12 w }
+    ensures { result ≡ unbroken (head_of 12 w) }
 {
     let functor = bits(w, 44, 16) as u16;
     let arity = bits(w, 40, 4) as u8;
@@ -162,9 +162,9 @@ fn head(w: u64) -> Option<Word>
 }
 
 // The word of the heap that a word says, if it says one.
-#[tactic(auto, using(crate::proofs::Unpacking::by_tag, crate::proofs::Unpacking::no_tag), unfolding(crate::specs::Exact::exact_word))]
+#[tactic(auto, using(crate::proofs::Unpacking::by_tag, crate::proofs::Unpacking::none_said, crate::proofs::Unpacking::told_whole), unfolding(crate::specs::Exact::exact_word))]
 fn said(w: u64) -> Option<Word>
-    ensures { unwrap_or result Word.Broken ≡ unpack_heap 12 w }
+    ensures { result ≡ unbroken (unpack_heap 12 w) }
 {
     let value = integer(w, 28);
     match tag(w) {
@@ -182,6 +182,7 @@ fn said(w: u64) -> Option<Word>
 impl From<u64> for Word {
     ghost from_gives = { λ w x. x ≡ unpack_heap 12 w };
 
+    #[tactic(auto, using(crate::proofs::Unpacking::unbroken_back))]
     fn from(w: u64) -> Word {
         said(w).unwrap_or(Word::Broken)
     }

@@ -1,10 +1,9 @@
 // Step words: op 4, d 5, a 5, b 5, then fields. What a step does not name is zero.
 
-ghost use Rattle.std.specs.Prelude.{◌≡◌, ◌%◌, ◌^◌, unwrap_or};
-ghost use Rattle.words.specs.declared.Step.TheVariants.{Refused};
+ghost use Rattle.std.specs.Prelude.{◌≡◌, ◌%◌, ◌^◌};
 ghost use Rattle.words.specs.Steps.{fields, shape, step_word, decode};
 ghost use Rattle.words.specs.Clip.{clipped_step, register};
-ghost use Rattle.words.specs.Exact.{exact_step, in_range};
+ghost use Rattle.words.specs.Exact.{exact_step, in_range, accepted};
 
 use crate::Step;
 use crate::parts::{bits, exactly, integer};
@@ -83,9 +82,9 @@ pub fn in_range(first: u8, arity: u8) -> bool
 
 // The step that a word says, if it says one. Op 0 and ops 12 to 15 are no steps. The arguments of a structure are in the registers from b on, those that
 // destruct gives go to the registers from d on.
-#[tactic(auto, using(crate::proofs::StepCode::by_op, crate::proofs::StepCode::no_op, crate::proofs::StepCode::told_whole))]
+#[tactic(auto, using(crate::proofs::StepCode::by_op, crate::proofs::StepCode::none_accepted, crate::proofs::StepCode::accepted_whole))]
 fn said(w: u64) -> Option<Step>
-    ensures { unwrap_or result Refused ≡ decode w }
+    ensures { result ≡ accepted (decode w) }
 {
     let d = bits(w, 55, 5) as u8;
     let a = bits(w, 50, 5) as u8;
@@ -131,6 +130,7 @@ fn said(w: u64) -> Option<Step>
 impl From<u64> for Step {
     ghost from_gives = { λ w s. s ≡ decode w };
 
+    #[tactic(auto, using(crate::proofs::StepCode::accepted_back))]
     fn from(w: u64) -> Step {
         said(w).unwrap_or(Step::Refused)
     }
