@@ -72,21 +72,6 @@ pub took_spent : (n : ℕ) (l r : Ref) (k left : ℕ) (h u t : List ℕ) → lef
 unfolding go_on solve
 took_spent n l r k left h u t e = record { through = λ rest. rw e; falls = omega arith; room = omega arith; long = refl; heap = refl; turned = refl }
 
--- a binding takes no pair: it is the same however many are left
-pub bound_with : (left n : ℕ) (p q : Ref) (k : ℕ) (h u t : List ℕ) (status k' : ℕ) (h' u' t' : List ℕ) → BoundTo n p q k 0 h u t status k' 0 h' u' t' →
-    BoundTo n p q k left h u t status k' left h' u' t'
-bound_with left n p q k h u t status k' h' u' t' d =
-    record {
-      ok = d.ok;
-      heap = d.heap;
-      turned = d.turned;
-      trail = d.trail;
-      address = d.address;
-      mark = d.mark;
-      count = d.count;
-      rest = refl;
-    }
-
 module _ (n : ℕ) (l r : Ref) (k left : ℕ) (h u t : List ℕ) (some : left ≡ 0 → ⊥) where
   step : (y : Result Taken Refusal) → y ≡ look_of h u l r → (rest : List Item) → solve n left (refs l r ∷ rest) (marked h u) ≡ took_pair n (solve n (left - 1)) (left - 1) rest (marked h u) y
   unfolding left_of right_of

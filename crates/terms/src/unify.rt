@@ -165,22 +165,26 @@ impl<'a, 'h> Unifier<'a, 'h> {
         Ref::from(self.heap.view().word(a as usize + (k as usize + 1)))
     }
 
-    // The variable at r is bound to the cell at s in the present copy, n. Entry k of the trail is the variable, and the mark that it had; the next is the answer.
+    // The variable at r is bound to the cell at s. The trail's next entry is the variable, and the mark that it had; that it is used is counted by the caller, who
+    // has taken a pair for it.
     #[tactic(auto, unfolding(store::specs::Memory::turn_at))]
-    fn bind(heap: &mut Heap<'_>, trail: &mut [u32], n: u8, k: u16, r: Ref, s: Ref) -> u16
-        ensures bound { BoundTo n r s k 0 heap.old.words.now heap.old.turned.now trail.old 0 result 0 heap.new.words.now heap.new.turned.now trail.new }
-        ensures born { heap.new.born.now ≡ heap.old.born.now }
-        ensures kept { Kept heap.old heap.new }
+    fn bind(&mut self, r: Ref, s: Ref)
+        ensures bound { BoundTo self.old.n r s self.old.bound self.old.left self.old.heap.now.words.now self.old.heap.now.turned.now self.old.trail.now
+            0 (self.new.bound + 1) self.new.left self.new.heap.now.words.now self.new.heap.now.turned.now self.new.trail.now }
+        ensures stays { Stays self.old self.new }
     {
         let a = r.address as usize;
-        let mark = heap.view().turned(a);
-        let entry = Entry {
-            address: r.address,
-            mark,
-        };
-        put(trail, k as usize, u32::from(entry));
-        heap.turn_at(n, a, u64::from(Cell::Bound(s)));
-        k.wrapping_add(1)
+        let (n, k) = (self.n, self.bound as usize);
+        let mark = self.heap.view().turned(a);
+        put(
+            self.trail,
+            k,
+            u32::from(Entry {
+                address: r.address,
+                mark,
+            }),
+        );
+        self.heap.turn_at(n, a, u64::from(Cell::Bound(s)));
     }
 
     // One pair is taken: if the budget's number has been taken already, it stops with 10; else the pair is counted.
@@ -197,7 +201,8 @@ impl<'a, 'h> Unifier<'a, 'h> {
         match self.look(l, r)? {
             Taken::Same => Ok(()),
             Taken::Bind(s, t) => {
-                self.bound = Self::bind(self.heap, self.trail, self.n, self.bound, s, t);
+                self.bind(s, t);
+                self.bound += 1;
                 Ok(())
             }
             Taken::Arguments(a, b, m) => self.walk_args(a, b, 0, m),
@@ -254,40 +259,8 @@ impl<'a, 'h> Unifier<'a, 'h> {
     }
 }
 
-// Two references. Unless the outcome is Ok, no binding remains.
-#[tactic(auto, using(crate::proofs::Whole::unify_done, crate::proofs::Whole::unify_back))]
-fn unify_terms(
-    heap: &mut Heap<'_>,
-    trail: &mut [u32],
-    n: u8,
-    l: Ref,
-    r: Ref,
-    budget: u16,
-) -> Attempt
-    requires { 4096 ≤ length trail.old }
-    ensures unified { unified (answer_of_attempt result) heap.new.words.now heap.new.turned.now
-        ≡ unify_terms n (budget % 2 ^ 12) l r (marked heap.old.words.now heap.old.turned.now) }
-    ensures born { heap.new.born.now ≡ heap.old.born.now }
-    ensures kept { Kept heap.old heap.new }
-{
-    let most = budget % 4096;
-    let mut unifier = Unifier {
-        heap,
-        trail,
-        n,
-        bound: 0,
-        left: most,
-    };
-    let outcome = unifier.take_pair(l, r);
-    let pairs = most - unifier.left;
-    if outcome.is_err() {
-        unifier.undo();
-    }
-    Attempt { pairs, outcome }
-}
-
 // Op 6. The trail is scratch: it has room for an entry for each pair, and what it holds afterwards is not told. Unless the outcome is Ok, no binding remains.
-#[tactic(auto, unfolding(crate::specs::Unify::unify_of))]
+#[tactic(auto, using(crate::proofs::Whole::unify_done, crate::proofs::Whole::unify_back), unfolding(crate::specs::Unify::unify_of))]
 pub fn unify(
     heap: &mut Heap<'_>,
     tables: &[u64],
@@ -308,5 +281,18 @@ pub fn unify(
             outcome: Err(Refusal::Dead),
         };
     };
-    unify_terms(heap, trail, copy_number(tables), l, r, budget)
+    let mut unifier = Unifier {
+        heap,
+        trail,
+        n: copy_number(tables),
+        bound: 0,
+        left: budget % 4096,
+    };
+    let most = unifier.left;
+    let outcome = unifier.take_pair(l, r);
+    let pairs = most - unifier.left;
+    if outcome.is_err() {
+        unifier.undo();
+    }
+    Attempt { pairs, outcome }
 }

@@ -1,7 +1,7 @@
 use Rattle.std.proofs.Common.{rules, ◌≡◌, ◌∙◌, sym, ap, Ok, Err}
 use Rattle.terms.specs.declared.unify.Taken.TheVariants.{Bind, Arguments}
 use Rattle.terms.specs.Unify.{look_of}
-use Rattle.terms.proofs.Cycle.{bound_with, took_spent, took_stop, took_same, took_bind, took_args, walk_done, walk_stop, walk_on}
+use Rattle.terms.proofs.Cycle.{took_spent, took_stop, took_same, took_bind, took_args, walk_done, walk_stop, walk_on}
 use Rattle.terms.proofs.unify.Unifier.+take_pair_walk_args.Goals as goal
 
 pub take_pair-returns-then-self-eq0-clause-took : goal.take_pair-returns-then-self-eq0-clause-took
@@ -18,7 +18,7 @@ take_pair-returns-in-Same-clause-took t c = took_same _ _ _ _ _ _ _ _ c.if-self-
 pub take_pair-returns-in-Bind-clause-took : goal.take_pair-returns-in-Bind-clause-took
 take_pair-returns-in-Bind-clause-took t c =
     let e : Ok (Bind c.in-Bind.s c.in-Bind.t) ≡ look_of _ _ c.args.l c.args.r = sym (c.in_ok-look.was ∙ ap Ok c.in-Bind.is) ∙ c.look.ensures in
-    search (took_bind, bound_with, c.if-self-eq0.false, e)
+    search (took_bind, c.if-self-eq0.false, e)
 
 pub take_pair-returns-in-Arguments-clause-took : goal.take_pair-returns-in-Arguments-clause-took
 take_pair-returns-in-Arguments-clause-took t c =
