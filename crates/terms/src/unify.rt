@@ -239,6 +239,7 @@ impl<'a, 'h> Unifier<'a, 'h> {
         ensures words { self.new.heap.now.words.now ≡ set self.old.heap.now.words.now (get_or self.old.trail.now k 0 % 2 ^ 16) (word_back (get_or self.old.trail.now k 0)) }
         ensures turned { self.new.heap.now.turned.now ≡ set self.old.heap.now.turned.now (get_or self.old.trail.now k 0 % 2 ^ 16) (mark_back (get_or self.old.trail.now k 0)) }
         ensures trail { self.new.trail.now ≡ self.old.trail.now }
+        ensures counts { (self.new.bound ≡ self.old.bound) × (self.new.left ≡ self.old.left) }
         ensures stays { Stays self.old self.new }
     {
         let e = self.entry(k);
@@ -251,6 +252,8 @@ impl<'a, 'h> Unifier<'a, 'h> {
     fn undo(&mut self)
         ensures words { self.new.heap.now.words.now ≡ undo_of word_back self.old.bound self.old.trail.now self.old.heap.now.words.now }
         ensures turned { self.new.heap.now.turned.now ≡ undo_of mark_back self.old.bound self.old.trail.now self.old.heap.now.turned.now }
+        ensures trail { self.new.trail.now ≡ self.old.trail.now }
+        ensures counts { (self.new.bound ≡ self.old.bound) × (self.new.left ≡ self.old.left) }
         ensures stays { Stays self.old self.new }
     {
         for k in (0..self.bound).rev() {
